@@ -1,16 +1,16 @@
 //! Lines of the server are heard.
-ghost use Rattle.std.specs.Prelude.{◌≡◌, ◌∷◌, [], Option, IfSome, OnOk};
+ghost use Rattle.std.specs.Prelude.{◌≡◌, ◌∷◌, [], Option, Some, IfSome, OnOk};
 ghost use Rattle.std.specs.Option.{option_copied};
 ghost use Rattle.fibs_position.specs.GameOf.{game_of};
-ghost use Rattle.fibs_exchange.specs.Turns.Answering.{IfPrinted, IfUnprinted};
-ghost use Rattle.std.specs.Io.KnownBytes.{Appends, Keeps};
+ghost use Rattle.fibs_exchange.specs.Turns.Answering.{Goes};
+ghost use Rattle.std.specs.Io.KnownBytes.{Keeps};
 ghost use Rattle.fibs_messages.specs.Line.{reading_of, board_line};
 ghost use Rattle.fibs_session.specs.History.Machine.{Talk};
 ghost use Rattle.fibs_session.specs.Calls.SessionOf.{taken_of};
 ghost use Rattle.fibs_session.specs.Calls.Standing.{StandsAfter};
 ghost use Rattle.fibs_exchange.specs.Turns.Lines.{phase_told, messages_in, taken_act};
-ghost use Rattle.fibs_exchange.specs.Turns.Script.{Did, Notes, OnlyWhoRefused, outside, directory_told, noted_unless};
-ghost use Rattle.fibs_exchange.specs.Turns.Turn.{Talked, FedToALine};
+ghost use Rattle.fibs_exchange.specs.Turns.Script.{Notes, OnlyWhoRefused, outside, directory_told, noted_unless};
+ghost use Rattle.fibs_exchange.specs.Turns.Turn.{Talked};
 ghost use Rattle.fibs_directory.specs.declared.fault.DirectoryFault.{DirectoryFault};
 
 use crate::ExchangeFault;
@@ -91,7 +91,7 @@ fn note_taken<F: Front>(
 ) -> Result<(), ExchangeFault>
     ensures { OnOk result ((refused : Option DirectoryFault)
         × F.tells front.old (directory_told refused) front.new
-        × Notes directory.old directory.new (noted_unless refused (messages_in (reading_of reading.now)))
+        × Notes (Some directory.old) (Some directory.new) (noted_unless refused (messages_in (reading_of reading.now)))
         × OnlyWhoRefused refused (messages_in (reading_of reading.now))) }
 {
     match reading {
@@ -111,10 +111,9 @@ fn hear_line<S: Link, F: Front>(
     stream: &mut S,
     front: &mut F,
 ) -> Result<(), TurnFault>
-    ensures did { IfPrinted result (λ p. Did F.tells (outside (S.contents stream.old) front.old directory.old)
-        (outside (S.contents stream.new) front.new directory.new) (taken_act (taken_of taken.now) ∷ []) p) }
-    ensures stopped { IfUnprinted result (Appends (S.contents stream.old) (S.contents stream.new)
-        (taken_act (taken_of taken.now)).writes) }
+    ensures did { Goes F.tells result (outside (S.contents stream.old) front.old directory.old)
+        (outside (S.contents stream.new) front.new directory.new)
+        (λ Does far. Does (taken_act (taken_of taken.now) ∷ [])) }
     ensures apart { Keeps (S.remaining stream.old) (S.remaining stream.new) }
 {
     send_commands(taken.send.as_slice(), stream)?;
@@ -131,12 +130,9 @@ pub(crate) fn hear_portion<S: Link, F: Front>(
     stream: &mut S,
     front: &mut F,
 ) -> Result<(), TurnFault>
-    ensures talked { IfPrinted result (λ p. (t : Talk) → StandsAfter client.old t →
-        Talked F.tells t client.new portion.now
-        (outside (S.contents stream.old) front.old directory.old)
-        (outside (S.contents stream.new) front.new directory.new) p) }
-    ensures stopped { IfUnprinted result ((t : Talk) → StandsAfter client.old t →
-        FedToALine t client.new portion.now (S.contents stream.old) (S.contents stream.new)) }
+    ensures talked { Goes F.tells result (outside (S.contents stream.old) front.old directory.old)
+        (outside (S.contents stream.new) front.new directory.new)
+        (λ Does far. (t : Talk) → StandsAfter client.old t → Talked t client.new portion.now far Does) }
     ensures apart { Keeps (S.remaining stream.old) (S.remaining stream.new) }
 {
     fibs_session::client::laws::pieces_join();

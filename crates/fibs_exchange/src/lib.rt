@@ -1,12 +1,12 @@
 //! One turn of a client with its stream.
 #![tactic(auto)]
 
-ghost use Rattle.std.specs.Prelude.{◌≡◌, ◌↔◌, ◌⊎◌, List, None, true, false};
-ghost use Rattle.std.specs.Prelude.{IfOk, OnErr, IsTrue};
-ghost use Rattle.std.specs.IoError.{error_kind};
+ghost use Rattle.std.specs.Prelude.{◌≡◌, List, None, true, false};
+ghost use Rattle.std.specs.Prelude.{IfOk, OnErr};
 ghost use Rattle.fibs_session.specs.History.Machine.{Talk, is_online};
 ghost use Rattle.fibs_session.specs.Calls.Standing.{StandsAfter};
 ghost use Rattle.fibs_messages.specs.Message.{MessageValue};
+ghost use Rattle.fibs_exchange.specs.Turns.Answering.{Listened};
 ghost use Rattle.fibs_exchange.specs.Turns.Script.{outside, known_before, known_after};
 ghost use Rattle.fibs_exchange.specs.Turns.Turn.{Turned, TurnedBy, Stopped, FitsStream};
 ghost use Rattle.fibs_exchange.specs.Turns.Turn.{bytes_of, is_there, still_given};
@@ -20,15 +20,14 @@ mod turn_fault;
 mod typing;
 
 use fibs_engine::limits::READ_PORTION;
-use fibs_engine::link::Link;
+use fibs_engine::link::{Link, is_quiet};
 pub use fibs_front::fault::FrontFault as ExchangeFault;
 use fibs_front::front::Front;
 use fibs_front::plain::Plain;
 use fibs_session::{Client, Directory, Outstanding};
 use hearing::hear_portion;
 use loss::end_connection;
-use std::io;
-use std::io::{ErrorKind, Write};
+use std::io::Write;
 use turn_fault::TurnFault;
 use typing::{type_line, type_offline};
 
@@ -44,14 +43,6 @@ pub enum Ending {
     Lost(Option<Outstanding>),
 }
 
-/// Whether a read gave nothing because nothing has come yet. Each other error of a read ends the connection.
-fn is_quiet(error: &io::Error) -> bool
-    ensures { IsTrue result
-        ↔ ((error_kind error.now ≡ ErrorKind.WouldBlock) ⊎ (error_kind error.now ≡ ErrorKind.TimedOut)) }
-{
-    matches!(error.kind(), ErrorKind::WouldBlock | ErrorKind::TimedOut)
-}
-
 /// Hears what the stream gives, until it is quiet.
 fn listen<S: Link, F: Front>(
     client: &mut Client,
@@ -59,13 +50,10 @@ fn listen<S: Link, F: Front>(
     stream: &mut S,
     front: &mut F,
 ) -> Result<Ending, ExchangeFault>
-    ensures turned { IfOk result (λ e. (t : Talk) → StandsAfter client.old t → is_online t ≡ true →
-        TurnedBy F.tells t client.new None (S.remaining stream.old) (S.remaining stream.new)
+    ensures turned { (t : Talk) → StandsAfter client.old t → is_online t ≡ true →
+        Listened F.tells result t client.new (S.remaining stream.old) (S.remaining stream.new)
         (outside (S.contents stream.old) front.old directory.old)
-        (outside (S.contents stream.new) front.new directory.new) e) }
-    ensures stopped { OnErr result ((t : Talk) → StandsAfter client.old t → is_online t ≡ true →
-        Stopped t client.new None (S.remaining stream.old) (S.remaining stream.new)
-        (S.contents stream.old) (S.contents stream.new)) }
+        (outside (S.contents stream.new) front.new directory.new) }
     ensures few { LostAtMost turn_limit (S.remaining stream.old) (S.remaining stream.new) }
 {
     fibs_session::client::laws::pieces_join();

@@ -1,11 +1,13 @@
 //! The end of a connection.
 ghost use Rattle.std.specs.Prelude.{ℕ, List, Option, IfOk};
+ghost use Rattle.fibs_session.specs.declared.taken.Outstanding.{Outstanding};
 ghost use Rattle.fibs_messages.specs.Message.{MessageValue};
-ghost use Rattle.fibs_session.specs.History.Machine.{Talk, Lose, step};
+ghost use Rattle.fibs_session.specs.History.Machine.{Talk};
 ghost use Rattle.fibs_session.specs.Calls.Standing.{StandsAfter};
 ghost use Rattle.fibs_exchange.specs.Turns.Script.{outside};
-ghost use Rattle.fibs_exchange.specs.Turns.Turn.{Ended};
-ghost use Rattle.fibs_engine.specs.Writing.{Progress};
+ghost use Rattle.fibs_exchange.specs.declared.Ending.TheVariants.{Lost};
+ghost use Rattle.fibs_exchange.specs.Turns.Turn.{Ended, LeavesAs};
+ghost use Rattle.fibs_engine.specs.Writing.{Progress, Broken};
 
 use crate::{Ending, ExchangeFault};
 use fibs_front::front::Front;
@@ -17,7 +19,8 @@ pub fn end_connection<F: Front>(client: &mut Client, front: &mut F) -> Result<En
     ensures ended { IfOk result (λ e. (p : Progress) → (t : Talk) → StandsAfter client.old t →
         (wrote : Option (List ℕ)) → (players : List MessageValue) →
         Ended F.tells p t client.new (outside wrote front.old players) (outside wrote front.new players) e) }
-    ensures lost { (t : Talk) → StandsAfter client.old t → StandsAfter client.new (step t Lose).talk }
+    ensures lost { (waited : Option Outstanding) × ((t : Talk) → StandsAfter client.old t →
+        LeavesAs (Lost waited) Broken t client.new) }
 {
     let waited = client.lose();
     front.tell(&Said::Lost(&waited))?;

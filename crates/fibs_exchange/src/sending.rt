@@ -8,7 +8,7 @@ ghost use Rattle.fibs_engine.specs.Writing.{Wrote, progress_of};
 
 use arrayvec::{ArrayString, ArrayVec};
 use fibs_engine::fixed::append;
-use fibs_engine::link::Link;
+use fibs_engine::link::{Link, send_bytes};
 use fibs_engine::writing::Broken;
 use fibs_front::printing::text_bytes;
 use fibs_front::typed_line::TYPED_LIMIT;
@@ -22,22 +22,6 @@ type PassedLine = ArrayVec<u8, PASSED_ROOM>;
 
 /// Room for the longest line that may be typed, and its line end.
 const PASSED_ROOM: usize = TYPED_LIMIT + 2;
-
-/// Writes the bytes in order, and stops at a write that fails or takes nothing.
-fn send_bytes<S: Link>(bytes: &[u8], stream: &mut S) -> Result<(), Broken>
-    ensures wrote { Wrote (progress_of result) (S.contents stream.old) (S.contents stream.new) bytes.now }
-    ensures apart { Keeps (S.remaining stream.old) (S.remaining stream.new) }
-{
-    let mut rest = bytes;
-    while !rest.is_empty() {
-        match stream.transmit(rest) {
-            Ok(0) => return Err(Broken),
-            Ok(count) => rest = &rest[count..],
-            Err(_) => return Err(Broken),
-        }
-    }
-    Ok(())
-}
 
 /// A command and its line end, in one piece.
 fn wire_line<const N: usize>(command: &ArrayString<N>) -> WireLine

@@ -1,12 +1,12 @@
 //! A typed line.
 ghost use Rattle.std.specs.Prelude.{◌≡◌, ◌∷◌, [], ℕ, List, Option, OnOk, false};
-ghost use Rattle.std.specs.Io.KnownBytes.{Appends, Keeps};
+ghost use Rattle.std.specs.Io.KnownBytes.{Keeps};
 ghost use Rattle.fibs_session.specs.History.Machine.{Talk};
 ghost use Rattle.fibs_session.specs.Calls.Standing.{StandsAfter};
 ghost use Rattle.fibs_messages.specs.Message.{MessageValue};
 ghost use Rattle.fibs_typed.specs.Typing.{typed_now};
 ghost use Rattle.fibs_typed.specs.TypedOf.{typed_value};
-ghost use Rattle.fibs_exchange.specs.Turns.Answering.{answered_act, IfPrinted, IfUnprinted};
+ghost use Rattle.fibs_exchange.specs.Turns.Answering.{answered_act, Goes};
 ghost use Rattle.fibs_exchange.specs.Turns.Script.{Did, outside};
 ghost use Rattle.fibs_exchange.specs.Turns.Turn.{FitsStream};
 ghost use Rattle.fibs_exchange.specs.Turns.Typing.{typed_step, typed_act};
@@ -76,11 +76,9 @@ pub(crate) fn type_line<S: Link, F: Front>(
 ) -> Result<(), TurnFault>
     ensures stands { (t : Talk) → StandsAfter client.old t →
         StandsAfter client.new (typed_step t (typed_now t text.now)).talk }
-    ensures did { IfPrinted result (λ p. (t : Talk) → StandsAfter client.old t → (players : List MessageValue) →
-        Did F.tells (outside (S.contents stream.old) front.old players)
-        (outside (S.contents stream.new) front.new players) (typed_act t (typed_now t text.now) ∷ []) p) }
-    ensures stopped { IfUnprinted result ((t : Talk) → StandsAfter client.old t →
-        Appends (S.contents stream.old) (S.contents stream.new) (typed_act t (typed_now t text.now)).writes) }
+    ensures did { (players : List MessageValue) → Goes F.tells result
+        (outside (S.contents stream.old) front.old players) (outside (S.contents stream.new) front.new players)
+        (λ Does far. (t : Talk) → StandsAfter client.old t → Does (typed_act t (typed_now t text.now) ∷ [])) }
     ensures apart { Keeps (S.remaining stream.old) (S.remaining stream.new) }
 {
     match answer_text(client, text) {

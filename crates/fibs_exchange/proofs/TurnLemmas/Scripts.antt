@@ -1,5 +1,5 @@
 -- What was done of a script, act by act.
-use Rattle.std.proofs.Common.{◌≡◌, ℕ, List, [], ◌∷◌, ◌++◌, Option, None, refl, sym, ap, subst, ◌∙◌}
+use Rattle.std.proofs.Common.{◌≡◌, ℕ, List, [], ◌∷◌, ◌++◌, Option, None, Some, refl, sym, ap, subst, ◌∙◌}
 use Rattle.std.proofs.Common.{append_assoc, append-nil}
 use Rattle.std.proofs.lemmas.List.{map-append}
 use Rattle.std.proofs.lemmas.List.Concat.{flat_map-append}
@@ -13,18 +13,22 @@ use Rattle.fibs_engine.specs.Writing.{Progress, Whole, Broken}
 use Rattle.fibs_front.specs.Told.{SaidValue, Joins}
 use Rattle.fibs_exchange.specs.Turns.Acts.{Act}
 use Rattle.fibs_exchange.specs.Turns.Script.{Outside, Done, directory_told, done_told, noted_unless}
-use Rattle.fibs_exchange.specs.Turns.Script.{calls_of, OnlyWhoRefused, AllOnlyWhoRefused}
-use Rattle.fibs_exchange.specs.Turns.Script.{acts_of, writes_of, tells_of, notes_of, Notes, Did, Called}
+use Rattle.fibs_exchange.specs.Turns.Script.{OnlyWhoRefused, AllOnlyWhoRefused, Silent, untold}
+use Rattle.fibs_exchange.specs.Turns.Script.{acts_of, writes_of, tells_of, notes_of, Notes, Did}
 
 -- the directory stays
-pub notes_nothing : (d : List MessageValue) → Notes d d []
-notes_nothing d = λ before is. subst (λ ms. IsDirectory ms d) (sym (append-nil before)) is
+pub notes_nothing : (d : Option (List MessageValue)) → Notes d d []
+notes_nothing None = tt
+notes_nothing (Some d) = λ before is. subst (λ ms. IsDirectory ms d) (sym (append-nil before)) is
 
 -- more is reported to it
-pub notes_joined : (a b c : List MessageValue) (xs ys : List MessageValue) → Notes a b xs → Notes b c ys
+pub notes_joined : (a b c : Option (List MessageValue)) (xs ys : List MessageValue) → Notes a b xs → Notes b c ys
     → Notes a c (xs ++ ys)
-notes_joined a b c xs ys f g = λ before is. subst (λ ms. IsDirectory ms c) (append_assoc before xs ys)
-    (g (before ++ xs) (f before is))
+notes_joined None b c xs ys f g = tt
+notes_joined (Some a) None c xs ys f g = absurd f
+notes_joined (Some a) (Some b) None xs ys f g = absurd g
+notes_joined (Some a) (Some b) (Some c) xs ys f g = λ before is.
+    subst (λ ms. IsDirectory ms c) (append_assoc before xs ys) (g (before ++ xs) (f before is))
 
 -- acts after others: of all of them only a message 5 is refused
 refused_joined : (ds es : List Done) → AllOnlyWhoRefused ds → AllOnlyWhoRefused es → AllOnlyWhoRefused (ds ++ es)
@@ -130,60 +134,36 @@ module _ {F : Type 0} {Tells : F → List SaidValue → F → Type 0} (joins : J
     refused = d.refused;
   }
 
--- the commands of acts that were done
-calls_done : (ds : List Done) → calls_of (acts_of ds) ≡ writes_of ds
-calls_done [] = refl
-calls_done (d ∷ ds) = ap (λ l. d.act.writes ++ l) (calls_done ds)
+-- nobody may be told in parts
+pub silent_joins : Joins Silent
+silent_joins = record { nothing = λ a. tt; joined = λ a b c xs ys p q. tt }
 
--- of a script that was done whole all commands were written
-pub did_wrote : {F : Type 0} {Tells : F → List SaidValue → F → Type 0} (a b : Outside F) (script : List Act)
-    → Did Tells a b script Whole
-    → Appends a.wrote b.wrote (calls_of script)
-did_wrote a b script d =
-    let same : calls_of script ≡ writes_of d.done =
-    ap calls_of d.acts ∙ ap (λ h. calls_of (acts_of d.done ++ h)) d.in_hand.0
-    ∙ ap calls_of (append-nil (acts_of d.done)) ∙ calls_done d.done in
-    subst (Appends a.wrote b.wrote)
-    (ap (λ h. writes_of d.done ++ h) d.in_hand.1 ∙ append-nil (writes_of d.done) ∙ sym same) d.wrote
-
--- and of one at which a write failed, those before
-pub did_called : {F : Type 0} {Tells : F → List SaidValue → F → Type 0} (p : Progress) (a b : Outside F)
-    (script : List Act) → Did Tells a b script p → Called a.wrote b.wrote script p
-did_called p a b script d = record {
-  done = acts_of d.done;
+-- what was done of a script was also done if nobody is told of it
+pub hushed : {F : Type 0} {Tells : F → List SaidValue → F → Type 0} (p : Progress) (a b : Outside F)
+    (script : List Act) → Did Tells a b script p → Did Silent (untold a.wrote) (untold b.wrote) script p
+hushed p a b script d = record {
+  done = d.done;
   hand = d.hand;
   part = d.part;
   acts = d.acts;
   in_hand = d.in_hand;
-  calls = subst (λ l. Appends a.wrote b.wrote (l ++ d.part)) (sym (calls_done d.done)) d.wrote;
+  wrote = d.wrote;
+  told = tt;
+  noted = tt;
+  refused = d.refused;
 }
 
--- all commands were written
-pub all_called : (wrote now : Option (List ℕ)) (script : List Act) → Appends wrote now (calls_of script)
-    → Called wrote now script Whole
-all_called wrote now script calls = record {
-  done = script;
-  hand = [];
-  part = [];
-  acts = sym (append-nil script);
-  in_hand = (refl, refl);
-  calls = subst (Appends wrote now) (sym (append-nil (calls_of script))) calls;
-}
+-- a script of which nobody is told, after one that was done whole
+pub did_hushed : {F : Type 0} {Tells : F → List SaidValue → F → Type 0} (a b : Outside F) (now : Option (List ℕ))
+    (xs ys : List Act) → Did Tells a b xs Whole → Did Silent (untold b.wrote) (untold now) ys Whole
+    → Did Silent (untold a.wrote) (untold now) (xs ++ ys) Whole
+did_hushed a b now xs ys first late = did_joined silent_joins Whole (untold a.wrote) (untold b.wrote) (untold now) xs ys
+    (hushed Whole a b xs first) late
 
--- after those of acts before
-pub called_after : (p : Progress) (a b c : Option (List ℕ)) (first later : List Act) → Appends a b (calls_of first)
-    → Called b c later p → Called a c (first ++ later) p
-called_after p a b c first later before k = record {
-  done = first ++ k.done;
-  hand = k.hand;
-  part = k.part;
-  acts = ap (λ l. first ++ l) k.acts ∙ sym (append_assoc first k.done k.hand);
-  in_hand = k.in_hand;
-  calls = subst (Appends a c)
-      (sym (append_assoc (calls_of first) (calls_of k.done) k.part)
-      ∙ ap (λ l. l ++ k.part) (sym (flat_map-append (λ (x : Act). x.writes) first k.done)))
-      (Appends-trans a b c (calls_of first) (calls_of k.done ++ k.part) before k.calls);
-}
+-- an act of which nobody was told is one that was written
+pub did_untold : (wrote now : Option (List ℕ)) (act : Act) → Appends wrote now act.writes
+    → Did Silent (untold wrote) (untold now) (act ∷ []) Whole
+did_untold wrote now act written = did_alone silent_joins (untold wrote) (untold now) act written tt tt
 
 -- of another name for the script
 pub did_same : {F : Type 0} {Tells : F → List SaidValue → F → Type 0} (p : Progress) (a b : Outside F)

@@ -14,7 +14,7 @@ use Rattle.fibs_exchange.specs.Turns.Turn.{Ended, TurnedBy, Turned}
 
 -- the outside, seen so
 abbrev pub viewed : {F G : Type 0} → (F → G) → Outside F → Outside G
-viewed view o = outside o.wrote (view o.front) o.players
+viewed view o = record { wrote = o.wrote; front = view o.front; players = o.players }
 
 module _ {F G : Type 0} {Tells : F → List SaidValue → F → Type 0} {Gains : G → List SaidValue → G → Type 0}
     (view : F → G)

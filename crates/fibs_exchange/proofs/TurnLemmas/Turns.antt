@@ -34,8 +34,21 @@ pub record Gone {F : Type 0} (Tells : F → List SaidValue → F → Type 0) (t 
   pub stands : StandsAfter now (step t (Piece bytes)).talk
   pub did : Did Tells a b (piece_acts t bytes) Whole
 
+-- all these bytes were fed, and this was done with what their lines call for
+unfoldable pub talked_all : (t : Talk) (now : ClientValue) (bytes : List ℕ) (Does : List Act → Type 0)
+    → StandsAfter now (step t (Piece bytes)).talk → Does (piece_acts t bytes) → Talked t now bytes Whole Does
+talked_all t now bytes Does at did = record {
+  fed = bytes;
+  rest = [];
+  cut = sym (append-nil bytes);
+  extent = refl;
+  stands = at;
+  did = did;
+}
+
 -- how far a portion was fed is how far a turn took it in
-intake_extent : (p : Progress) (stream fed rest : List ℕ) → Extent p stream fed rest → IntakeExtent p stream fed rest
+pub intake_extent : (p : Progress) (stream fed rest : List ℕ) → Extent p stream fed rest
+    → IntakeExtent p stream fed rest
 intake_extent Whole stream fed rest e = e
 intake_extent Broken stream fed rest e = e.0
 
@@ -76,16 +89,16 @@ module _ {F : Type 0} {Tells : F → List SaidValue → F → Type 0} (joins : J
           (did_joined joins Whole a b c (piece_acts t p) acts d e);
     }
 
-    -- a write fails at a line after them
-    pub broke_at : (t : Talk) (new : ClientValue) (front piece back bytes : List ℕ) (acts : List Act)
-        (a b c : Outside F)
-        → bytes ≡ (front ++ piece) ++ back → is_online t ≡ true
-        → Did Tells a b (piece_acts t front) Whole → StandsAfter new
-        (step (step t (Piece front)).talk (Piece piece)).talk
+    -- a fault comes at a line after them
+    pub broke_at : (t : Talk) (new : ClientValue) (front piece back bytes : List ℕ) (acts : List Act) (a b : Outside F)
+        (Late All : List Act → Type 0)
+        → ((xs ys : List Act) → Did Tells a b xs Whole → Late ys → All (xs ++ ys))
+        → bytes ≡ (front ++ piece) ++ back → is_online t ≡ true → Did Tells a b (piece_acts t front) Whole
+        → StandsAfter new (step (step t (Piece front)).talk (Piece piece)).talk
         → piece_acts (step t (Piece front)).talk piece ≡ acts
-        → EndsALine (step t (Piece front)).talk.stream piece → 0 < length piece → Did Tells b c acts Broken
-        → Talked Tells t new bytes a c Broken
-    broke_at t new front piece back bytes acts a b c cut on d at same ends long e = record {
+        → EndsALine (step t (Piece front)).talk.stream piece → 0 < length piece → Late acts
+        → Talked t new bytes Broken All
+    broke_at t new front piece back bytes acts a b Late All joined cut on d at same ends long e = record {
       fed = front ++ piece;
       rest = back;
       cut = cut;
@@ -96,27 +109,29 @@ module _ {F : Type 0} {Tells : F → List SaidValue → F → Type 0} (joins : J
             (arith, long, length-append front piece),
       );
       stands = two_pieces new t front piece at;
-      did = did_same Broken a c (piece_acts t front ++ acts) (piece_acts t (front ++ piece))
-          (ap (λ l. piece_acts t front ++ l) (sym same) ∙ sym (acts_join grow t front piece))
-          (did_joined joins Broken a b c (piece_acts t front) acts d e);
+      did = subst All (ap (λ l. piece_acts t front ++ l) (sym same) ∙ sym (acts_join grow t front piece))
+          (joined (piece_acts t front) acts d e);
     }
 
     -- a portion after what was read, done whole
     pub gone_portion : (t : Talk) (y z : ClientValue) (read portion : List ℕ) (a b c : Outside F)
         → Gone Tells t y read a b
-        → Talked Tells (step t (Piece read)).talk z portion b c Whole → Gone Tells t z (read ++ portion) a c
+        → Talked (step t (Piece read)).talk z portion Whole (λ script. Did Tells b c script Whole)
+        → Gone Tells t z (read ++ portion) a c
     gone_portion t y z read portion a b c g k =
         let same : portion ≡ k.fed = k.cut ∙ ap (λ l. k.fed ++ l) k.extent ∙ append-nil k.fed in
         subst (λ l. Gone Tells t z (read ++ l) a c) (sym same)
         (gone_more t z read k.fed (piece_acts (step t (Piece read)).talk k.fed) a b c g.did k.stands refl k.did)
 
     -- and broken
-    pub broke_portion : (t : Talk) (y z : ClientValue) (read portion : List ℕ) (a b c : Outside F) → is_online t ≡ true
-        → Gone Tells t y read a b → Talked Tells (step t (Piece read)).talk z portion b c Broken
-        → Talked Tells t z (read ++ portion) a c Broken
-    broke_portion t y z read portion a b c on g k =
-        broke_at t z read k.fed k.rest (read ++ portion) (piece_acts (step t (Piece read)).talk k.fed) a b c
-        (ap (λ l. read ++ l) k.cut ∙ sym (append_assoc read k.fed k.rest)) on
+    pub broke_portion : (t : Talk) (y z : ClientValue) (read portion : List ℕ) (a b : Outside F)
+        (Late All : List Act → Type 0)
+        → ((xs ys : List Act) → Did Tells a b xs Whole → Late ys → All (xs ++ ys))
+        → is_online t ≡ true → Gone Tells t y read a b → Talked (step t (Piece read)).talk z portion Broken Late
+        → Talked t z (read ++ portion) Broken All
+    broke_portion t y z read portion a b Late All joined on g k =
+        broke_at t z read k.fed k.rest (read ++ portion) (piece_acts (step t (Piece read)).talk k.fed) a b Late All
+        joined (ap (λ l. read ++ l) k.cut ∙ sym (append_assoc read k.fed k.rest)) on
         g.did k.stands refl k.extent.0 k.extent.1 k.did
 
   -- ---- a turn
@@ -126,9 +141,9 @@ module _ {F : Type 0} {Tells : F → List SaidValue → F → Type 0} (joins : J
   still_open t c b at = record { did = did_nothing joins b; leaves = (at, refl) }
 
   -- nothing was typed
-  pub turned : (p : Progress) (e : Ending) (t : Talk) (y z : ClientValue) (left still : Option (List ℕ))
+  unfoldable pub turned : (p : Progress) (e : Ending) (t : Talk) (y z : ClientValue) (left still : Option (List ℕ))
       (read : List ℕ) (a b c : Outside F) → is_online t ≡ true → Consumes left still read
-      → (k : Talked Tells t y read a b p) → Ended Tells p (step t (Piece k.fed)).talk z b c e
+      → (k : Talked t y read p (λ script. Did Tells a b script p)) → Ended Tells p (step t (Piece k.fed)).talk z b c e
       → TurnedBy Tells t z None left still a c e
   turned p e t y z left still read a b c on took k end = record {
     intake = record {
@@ -148,30 +163,18 @@ module _ {F : Type 0} {Tells : F → List SaidValue → F → Type 0} (joins : J
   }
 
   -- and all that was read was heard
-  pub turned_whole : (e : Ending) (t : Talk) (y z : ClientValue) (left still : Option (List ℕ)) (read : List ℕ)
-      (a b c : Outside F) → is_online t ≡ true → Consumes left still read
-      → Gone Tells t y read a b → Ended Tells Whole (step t (Piece read)).talk z b c e
-      → TurnedBy Tells t z None left still a c e
-  turned_whole e t y z left still read a b c on took g end = record {
-    intake = record {
-      read = read;
-      took = took;
-      fed = read;
-      rest = [];
-      cut = sym (append-nil read);
-    };
-    progress = Whole;
-    extent = refl;
-    mid = b;
-    did = g.did;
-    ended = end;
-    offline = never on;
-    quiet = never on;
-  }
+  unfoldable pub turned_whole : (t : Talk) (z : ClientValue) (left still : Option (List ℕ)) (read : List ℕ)
+      (a b : Outside F)
+      → is_online t ≡ true → Consumes left still read → Gone Tells t z read a b
+      → TurnedBy Tells t z None left still a b Quiet
+  unfolding talked_all
+  turned_whole t z left still read a b on took g = turned Whole Quiet t z z left still read a b b on took
+      (talked_all t z read (λ script. Did Tells a b script Whole) g.stands g.did)
+      (still_open (step t (Piece read)).talk z b g.stands)
 
   -- the typed line's act was done, and the turn goes on
-  pub turned_typed : (e : Ending) (t : Talk) (z : ClientValue) (text : List ℕ) (left mid still : Option (List ℕ))
-      (a b c : Outside F) → is_online t ≡ true → Keeps left mid
+  unfoldable pub turned_typed : (e : Ending) (t : Talk) (z : ClientValue) (text : List ℕ)
+      (left mid still : Option (List ℕ)) (a b c : Outside F) → is_online t ≡ true → Keeps left mid
       → Did Tells a b (typed_act t (typed_now t text) ∷ []) Whole
       → TurnedBy Tells (typed_step t (typed_now t text)).talk z None mid still b c e
       → TurnedBy Tells t z (Some text) left still a c e
@@ -196,9 +199,10 @@ module _ {F : Type 0} {Tells : F → List SaidValue → F → Type 0} (joins : J
   }
 
   -- nothing was read after the typed line
-  turned_here : (p : Progress) (e : Ending) (t : Talk) (z : ClientValue) (text : List ℕ) (left still : Option (List ℕ))
-      (a b c : Outside F) → EmptyPieceIsNothing → Keeps left still → IntakeExtent p t.stream [] []
-      → (is_online t ≡ false → e ≡ Quiet) → Did Tells a b (typed_act t (typed_now t text) ∷ []) p
+  pub turned_here : (p : Progress) (e : Ending) (t : Talk) (z : ClientValue) (text : List ℕ)
+      (left still : Option (List ℕ)) (a b c : Outside F) → EmptyPieceIsNothing → Keeps left still
+      → IntakeExtent p t.stream [] [] → (is_online t ≡ false → e ≡ Quiet)
+      → Did Tells a b (typed_act t (typed_now t text) ∷ []) p
       → Ended Tells p (typed_step t (typed_now t text)).talk z b c e → TurnedBy Tells t z (Some text) left still a c e
   turned_here p e t z text left still a b c empty k ext quiet d end =
       let u : Talk = (typed_step t (typed_now t text)).talk in

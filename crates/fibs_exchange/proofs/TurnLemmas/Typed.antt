@@ -98,8 +98,8 @@ no_command why command e = absurd cc
 
 module _ {F : Type 0} {Tells : F → List SaidValue → F → Type 0} (joins : Joins Tells) (t : Talk) (v : TypedValue) where
   -- the directory is after a typed line as before
-  quiet : (players : List MessageValue) → Notes players players (typed_act t v).notes
-  quiet players = subst (Notes players players) (sym (typed_notes t v)) (notes_nothing players)
+  quiet : (players : List MessageValue) → Notes (Some players) (Some players) (typed_act t v).notes
+  quiet players = subst (Notes (Some players) (Some players)) (sym (typed_notes t v)) (notes_nothing (Some players))
 
   -- it is answered by what is reported
   pub did_reply : (said : SaidValue) (wrote : Option (List ℕ)) (before after : F) (players : List MessageValue)

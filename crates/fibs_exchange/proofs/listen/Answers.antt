@@ -2,17 +2,13 @@ use Rattle.std.proofs.Common.{rules, ◌≡◌, ◌++◌, arith, length, [], tak
 use Rattle.std.specs.Io.KnownBytes.{Consumes}
 use Rattle.std.proofs.KnownBytes.{Consumes-nil, Consumes-trans, Consumes-kept}
 use Rattle.fibs_session.specs.History.Machine.{Piece, step}
-use Rattle.fibs_exchange.specs.declared.Ending.TheVariants.{Quiet}
 use Rattle.fibs_engine.specs.Writing.{Whole, Broken}
-use Rattle.fibs_exchange.specs.Turns.Script.{outside}
-use Rattle.fibs_exchange.specs.Turns.Turn.{all_fed, lost}
-use Rattle.fibs_engine.proofs.OkLemmas.{if_ok_weaker}
 use Rattle.fibs_exchange.proofs.TurnLemmas.Wrote.{consumes_none}
-use Rattle.fibs_exchange.proofs.TurnLemmas.Turns.{gone_nothing, gone_kept, gone_portion, broke_portion, still_open}
-use Rattle.fibs_exchange.proofs.TurnLemmas.Turns.{turned}
-use Rattle.fibs_exchange.proofs.TurnLemmas.Turns.{turned_whole}
+use Rattle.fibs_exchange.proofs.TurnLemmas.Scripts.{did_joined}
+use Rattle.fibs_exchange.proofs.TurnLemmas.Turns.{gone_nothing, gone_kept, gone_portion, broke_portion}
+use Rattle.fibs_exchange.proofs.TurnLemmas.Turns.{talked_all, turned_whole}
 use Rattle.fibs_exchange.proofs.TurnLemmas.Reads.{more_read, few_and_none, few_and_portion}
-use Rattle.fibs_exchange.proofs.TurnLemmas.Stops.{on_any_err, stopped_whole, stopped_broken, stopped_portion}
+use Rattle.fibs_exchange.proofs.TurnLemmas.Stops.{listened_fault, listened_lost, stopped_whole, stopped_portion}
 use Rattle.fibs_exchange.proofs.listen.Goals as goal
 
 pub loop-made-init : goal.loop-made-init
@@ -24,54 +20,71 @@ loop-made-init g c = (
   refl,
 )
 
+pub returns-in_err-flush-clause-turned : goal.returns-in_err-flush-clause-turned
+returns-in_err-flush-clause-turned g c = λ t at on.
+    let i = c.loop-made.invariant in
+    let gone = i.2 t at in
+    listened_fault g.F.Front.tells c.from_residual.result _ t _ _ _ _ _ c.from_residual.ensures.1
+    (stopped_whole g.F.Front.tells t _ _ _ i.0 _ _ on i.1 gone)
+
 pub returns-in-Ok-eq0-clause-turned : goal.returns-in-Ok-eq0-clause-turned
-returns-in-Ok-eq0-clause-turned g c =
+returns-in-Ok-eq0-clause-turned g c = λ t at on.
     let i = c.loop-made.invariant in
     let bytes = rw c.in-Ok-eq0.is at c.receive.ensures.bytes in
     let took : Consumes (g.S.Read.remaining c.args.stream.now) (g.S.Read.remaining c.receive.new.self) i.0 =
     consumes_none _ _ _ i.0 c.in-Ok-eq0.field-0 c.receive.new.buf i.1 bytes.0 c.in-Ok-eq0.field-0-test in
-    if_ok_weaker c.end_connection.result
-    (λ e h t at on.
-    let gone = i.2 t at in
-    turned_whole g.met.F.Front.joins e t _ _ _ _ i.0 _ _ _ on took
-    (gone_kept g.met.F.Front.joins t _ i.0 _ _ _ gone c.receive.ensures.apart c.in_ok-flush.ensures refl)
-    (h Whole (step t (Piece i.0)).talk gone.stands _ _)) c.end_connection.ensures.ended
+    let gone = gone_kept g.met.F.Front.joins t _ i.0 _ _ _ (i.2 t at) c.receive.ensures.apart c.in_ok-flush.ensures
+    refl in
+    listened_lost g.F.Front.tells g.met.F.Front.joins c.end_connection.result Whole t _ _ _ _ i.0 _ _ _ _ _ on took
+    (talked_all t _ i.0 _ gone.stands gone.did) c.end_connection.ensures.ended c.end_connection.ensures.lost
 
 pub returns-in-Err-clause-turned : goal.returns-in-Err-clause-turned
 returns-in-Err-clause-turned g c = λ t at on.
     let i = c.loop-made.invariant in
     let gone = gone_kept g.met.F.Front.joins t _ i.0 _ _ _
     (i.2 t at) c.receive.ensures.apart c.in_ok-flush.ensures refl in
-    turned_whole g.met.F.Front.joins Quiet t _ _ _ _ i.0 _ _ _ on
-    (Consumes-kept _ _ _ i.0 i.1 c.in-Err.ensures.bytes) gone
-    (still_open g.met.F.Front.joins _ _ _ gone.stands)
+    turned_whole g.met.F.Front.joins t _ _ _ i.0 _ _ on (Consumes-kept _ _ _ i.0 i.1 c.in-Err.ensures.bytes) gone
 
 pub returns-in-Err-2-clause-turned : goal.returns-in-Err-2-clause-turned
-returns-in-Err-2-clause-turned g c =
+returns-in-Err-2-clause-turned g c = λ t at on.
     let i = c.loop-made.invariant in
-    if_ok_weaker c.end_connection-in-Err-2.result
-    (λ e h t at on.
-    let gone = i.2 t at in
-    turned_whole g.met.F.Front.joins e t _ _ _ _ i.0 _ _ _ on (Consumes-kept _ _ _ i.0 i.1 c.in-Err-2.ensures.bytes)
-    (gone_kept g.met.F.Front.joins t _ i.0 _ _ _ gone c.receive.ensures.apart c.in_ok-flush.ensures refl)
-    (h Whole (step t (Piece i.0)).talk gone.stands _ _))
-    c.end_connection-in-Err-2.ensures.ended
+    let gone = gone_kept g.met.F.Front.joins t _ i.0 _ _ _ (i.2 t at) c.receive.ensures.apart c.in_ok-flush.ensures
+    refl in
+    listened_lost g.F.Front.tells g.met.F.Front.joins c.end_connection-in-Err-2.result Whole t _ _ _ _ i.0 _ _ _ _ _ on
+    (Consumes-kept _ _ _ i.0 i.1 c.in-Err-2.ensures.bytes) (talked_all t _ i.0 _ gone.stands gone.did)
+    c.end_connection-in-Err-2.ensures.ended c.end_connection-in-Err-2.ensures.lost
 
 pub returns-in-Err-Stream-clause-turned : goal.returns-in-Err-Stream-clause-turned
-returns-in-Err-Stream-clause-turned g c =
+returns-in-Err-Stream-clause-turned g c = λ t at on.
+    let i = c.loop-made.invariant in
+    let joins = g.met.F.Front.joins in
+    let piece = take c.in-Ok.count c.receive.new.buf in
+    let took = Consumes-trans _ _ _ i.0 piece i.1
+    (Consumes-kept _ _ _ piece c.in-Ok.ensures.bytes.0 c.hear_portion.ensures.apart) in
+    let gone = gone_kept joins t _ i.0 _ _ _ (i.2 t at) c.receive.ensures.apart c.in_ok-flush.ensures refl in
+    let talked = broke_portion joins c.pieces_join.ensures c.lines_only_grow.ensures t _ _ i.0 piece _ _ _ _
+    (λ xs ys first late. did_joined joins Broken _ _ _ xs ys first late) on gone
+    ((rw c.in-Err-Stream.field-0-is at c.in-Err-Stream.ensures.talked) (step t (Piece i.0)).talk gone.stands) in
+    listened_lost g.F.Front.tells joins c.end_connection-in-Err-Stream.result Broken t _ _ _ _ (i.0 ++ piece) _ _ _ _ _
+    on took talked
+    c.end_connection-in-Err-Stream.ensures.ended c.end_connection-in-Err-Stream.ensures.lost
+
+pub returns-in-Err-Output-clause-turned : goal.returns-in-Err-Output-clause-turned
+returns-in-Err-Output-clause-turned g c = λ t at on.
     let i = c.loop-made.invariant in
     let piece = take c.in-Ok.count c.receive.new.buf in
     let took = Consumes-trans _ _ _ i.0 piece i.1
     (Consumes-kept _ _ _ piece c.in-Ok.ensures.bytes.0 c.hear_portion.ensures.apart) in
-    if_ok_weaker c.end_connection-in-Err-Stream.result
-    (λ e h t at on.
     let gone = gone_kept g.met.F.Front.joins t _ i.0 _ _ _
     (i.2 t at) c.receive.ensures.apart c.in_ok-flush.ensures refl in
-    let talked = broke_portion g.met.F.Front.joins c.pieces_join.ensures c.lines_only_grow.ensures t _ _ i.0 piece _ _ _
-    on gone
-    ((rw c.in-Err-Stream.field-0-is at c.in-Err-Stream.ensures.talked) (step t (Piece i.0)).talk gone.stands) in
-    turned g.met.F.Front.joins Broken e t _ _ _ _ (i.0 ++ piece) _ _ _ on took talked
-    (h Broken (step t (Piece talked.fed)).talk talked.stands _ _)) c.end_connection-in-Err-Stream.ensures.ended
+    stopped_portion g.F.Front.tells g.met.F.Front.joins c.pieces_join.ensures c.lines_only_grow.ensures t _ _ _ _ i.0
+    piece _ _ _ on took gone
+    ((rw c.in-Err-Output.field-0-is at c.in-Err-Output.ensures.talked) (step t (Piece i.0)).talk gone.stands)
+
+pub returns-clause-turned : goal.returns-clause-turned
+returns-clause-turned g c = λ t at on.
+    let i = c.loop-made.invariant in
+    turned_whole g.met.F.Front.joins t _ _ _ i.0 _ _ on i.1 (i.2 t at)
 
 pub loop-made-preserved : goal.loop-made-preserved
 loop-made-preserved g c =
@@ -89,80 +102,6 @@ loop-made-preserved g c =
       more_read _ _ i.0 c.in-Ok.count c.receive.new.buf i.3 (whole ∙ i.4),
       whole ∙ i.4,
     )
-
-pub returns-clause-turned : goal.returns-clause-turned
-returns-clause-turned g c = λ t at on.
-    let i = c.loop-made.invariant in
-    let gone = i.2 t at in
-    turned_whole g.met.F.Front.joins Quiet t _ _ _ _ i.0 _ _ _ on i.1 gone
-    (still_open g.met.F.Front.joins _ _ _ gone.stands)
-
-pub returns-in_err-flush-clause-stopped : goal.returns-in_err-flush-clause-stopped
-returns-in_err-flush-clause-stopped g c =
-    on_any_err c.from_residual.result
-    (λ t at on.
-    let i = c.loop-made.invariant in
-    let gone = i.2 t at in
-    stopped_whole t _ _ _ _ i.0 _ _ on i.1 gone (all_fed refl refl gone.stands))
-
-pub returns-in-Ok-eq0-clause-stopped : goal.returns-in-Ok-eq0-clause-stopped
-returns-in-Ok-eq0-clause-stopped g c =
-    let i = c.loop-made.invariant in
-    let bytes = rw c.in-Ok-eq0.is at c.receive.ensures.bytes in
-    let took : Consumes (g.S.Read.remaining c.args.stream.now) (g.S.Read.remaining c.receive.new.self) i.0 =
-    consumes_none _ _ _ i.0 c.in-Ok-eq0.field-0 c.receive.new.buf i.1 bytes.0 c.in-Ok-eq0.field-0-test in
-    let here = outside (g.S.Write.contents c.receive.new.self)
-    c.loop-made.front c.loop-made.directory in
-    on_any_err c.end_connection.result
-    (λ t at on.
-    let gone = i.2 t at in
-    stopped_whole t _ _ _ _ i.0 _ here on took
-    (gone_kept g.met.F.Front.joins t _ i.0 _ _ here gone c.receive.ensures.apart (g.met.F.Front.joins.nothing _) refl)
-    (lost refl (c.end_connection.ensures.lost (step t (Piece i.0)).talk gone.stands)))
-
-pub returns-in-Err-2-clause-stopped : goal.returns-in-Err-2-clause-stopped
-returns-in-Err-2-clause-stopped g c =
-    let i = c.loop-made.invariant in
-    let here = outside (g.S.Write.contents c.receive.new.self)
-    c.loop-made.front c.loop-made.directory in
-    on_any_err c.end_connection-in-Err-2.result
-    (λ t at on.
-    let gone = i.2 t at in
-    stopped_whole t _ _ _ _ i.0 _ here on (Consumes-kept _ _ _ i.0 i.1 c.in-Err-2.ensures.bytes)
-    (gone_kept g.met.F.Front.joins t _ i.0 _ _ here gone c.receive.ensures.apart (g.met.F.Front.joins.nothing _) refl)
-    (lost refl (c.end_connection-in-Err-2.ensures.lost (step t (Piece i.0)).talk gone.stands)))
-
-pub returns-in-Err-Output-clause-stopped : goal.returns-in-Err-Output-clause-stopped
-returns-in-Err-Output-clause-stopped g c =
-    λ t at on.
-    let i = c.loop-made.invariant in
-    let piece = take c.in-Ok.count c.receive.new.buf in
-    let took =
-    Consumes-trans _ _ _ i.0 piece i.1 (Consumes-kept _ _ _ piece c.in-Ok.ensures.bytes.0
-    c.hear_portion.ensures.apart) in
-    let here = outside (g.S.Write.contents c.receive.new.self)
-    c.loop-made.front c.loop-made.directory in
-    let gone = gone_kept g.met.F.Front.joins t _ i.0 _ _ here (i.2 t at) c.receive.ensures.apart
-    (g.met.F.Front.joins.nothing _) refl in
-    stopped_portion c.pieces_join.ensures c.lines_only_grow.ensures t _ _ _ _ i.0 piece _ here _ on took gone
-    ((rw c.in-Err-Output.field-0-is at c.in-Err-Output.ensures.stopped) (step t (Piece i.0)).talk gone.stands)
-
-pub returns-in-Err-Stream-clause-stopped : goal.returns-in-Err-Stream-clause-stopped
-returns-in-Err-Stream-clause-stopped g c =
-    let i = c.loop-made.invariant in
-    let piece = take c.in-Ok.count c.receive.new.buf in
-    let took =
-    Consumes-trans _ _ _ i.0 piece i.1 (Consumes-kept _ _ _ piece c.in-Ok.ensures.bytes.0
-    c.hear_portion.ensures.apart) in
-    on_any_err c.end_connection-in-Err-Stream.result
-    (λ t at on.
-    let gone = gone_kept g.met.F.Front.joins t _ i.0 _ _ _
-    (i.2 t at) c.receive.ensures.apart c.in_ok-flush.ensures refl in
-    let talked =
-    broke_portion g.met.F.Front.joins c.pieces_join.ensures c.lines_only_grow.ensures t _ _ i.0 piece _ _ _ on gone
-    ((rw c.in-Err-Stream.field-0-is at c.in-Err-Stream.ensures.talked) (step t (Piece i.0)).talk gone.stands) in
-    stopped_broken t _ _ _ _ (i.0 ++ piece) _ _ on took talked
-    (c.end_connection-in-Err-Stream.ensures.lost (step t (Piece talked.fed)).talk talked.stands))
 
 pub returns-in-Err-clause-few : goal.returns-in-Err-clause-few
 returns-in-Err-clause-few g c =

@@ -1,6 +1,10 @@
 use Rattle.std.proofs.Common.{None}
 use Rattle.fibs_exchange.proofs.TurnLemmas.Turns.{turned_nothing, turned_offline}
-use Rattle.fibs_exchange.proofs.TurnLemmas.Stops.{on_any_err, stopped_unprinted}
+use Rattle.fibs_exchange.proofs.TurnLemmas.Scripts.{silent_joins, did_untold}
+use Rattle.fibs_exchange.proofs.TurnLemmas.Stops.{on_any_err, stopped}
+use Rattle.fibs_exchange.specs.Turns.Typing.{typed_act}
+use Rattle.fibs_typed.specs.Typing.{typed_now}
+use Rattle.fibs_exchange.specs.declared.Ending.TheVariants.{Quiet}
 use Rattle.fibs_exchange.proofs.talk_offline.Goals as goal
 
 pub returns-in-None-clause-turned : goal.returns-in-None-clause-turned
@@ -16,5 +20,7 @@ returns-in_ok-type_offline-in-Some-clause-turned g c = λ t at off players.
 pub returns-in_err-type_offline-in-Some-clause-stopped : goal.returns-in_err-type_offline-in-Some-clause-stopped
 returns-in_err-type_offline-in-Some-clause-stopped g c =
     on_any_err c.from_residual.result
-    (λ t at off. rw c.in-Some.is (stopped_unprinted t _ c.in-Some.text.now None None None None
-    c.empty_piece_is_nothing.ensures tt tt (c.type_offline.ensures.stands t at)))
+    (λ t at off.
+    let act = typed_act t (typed_now t c.in-Some.text.now) in
+    rw c.in-Some.is (stopped Quiet t _ _ _ _ _ _ (turned_offline silent_joins t _ c.in-Some.text.now _ _
+    c.empty_piece_is_nothing.ensures (c.type_offline.ensures.stands t at) (did_untold None None act tt))))

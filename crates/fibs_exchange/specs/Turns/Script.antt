@@ -12,14 +12,22 @@ use Rattle.fibs_front.specs.Told.{SaidValue, unnoted_said}
 use Rattle.fibs_exchange.specs.Turns.Acts.{Act}
 
 -- what is outside of the client: what the stream holds, if the prover knows it, the front end, and the directory's
--- entries
+-- entries, if there is a directory
 pub record Outside (F : Type 0) : Type 0 where
   pub wrote : Option (List ℕ)
   pub front : F
-  pub players : List MessageValue
+  pub players : Option (List MessageValue)
 
 abbrev pub outside : {F : Type 0} → Option (List ℕ) → F → List MessageValue → Outside F
-outside wrote front players = record { wrote = wrote; front = front; players = players }
+outside wrote front players = record { wrote = wrote; front = front; players = Some players }
+
+-- a front end that says nothing, whatever is reported to it
+abbrev pub Silent : Unit {0} → List SaidValue → Unit {0} → Type 0
+Silent before told after = Unit {0}
+
+-- a stream beside which nobody is told: there is no directory, and the front end says nothing
+abbrev pub untold : Option (List ℕ) → Outside (Unit {0})
+untold wrote = record { wrote = wrote; front = tt; players = None }
 
 -- an act that was done whole; and, if the directory refused a message, why
 pub record Done : Type 0 where
@@ -54,10 +62,6 @@ abbrev pub noted_unless : Option DirectoryFault → List MessageValue → List M
 noted_unless None messages = messages
 noted_unless (Some why) messages = []
 
--- the bytes of the commands that acts call for
-abbrev pub calls_of : List Act → List ℕ
-calls_of = flat_map (λ act. act.writes)
-
 abbrev pub acts_of : List Done → List Act
 acts_of = map (λ d. d.act)
 
@@ -70,9 +74,12 @@ tells_of = flat_map done_told
 abbrev pub notes_of : List Done → List MessageValue
 notes_of = flat_map (λ d. noted_unless d.refused d.act.notes)
 
--- if it was the directory of some messages, it is now that of those and of these messages
-abbrev pub Notes : List MessageValue → List MessageValue → List MessageValue → Type 0
-Notes old new messages = (before : List MessageValue) → IsDirectory before old → IsDirectory (before ++ messages) new
+-- if there is a directory, and it was that of some messages, it is now that of those and of these messages
+abbrev pub Notes : Option (List MessageValue) → Option (List MessageValue) → List MessageValue → Type 0
+Notes None new messages = Unit {0}
+Notes (Some old) None messages = ⊥
+Notes (Some old) (Some new) messages =
+    (before : List MessageValue) → IsDirectory before old → IsDirectory (before ++ messages) new
 
 -- the act in hand when a write failed, and what was written of it: not all
 abbrev pub InHand : Progress → List Act → List ℕ → Type 0
@@ -93,16 +100,6 @@ pub record Did {F : Type 0} (Tells : F → List SaidValue → F → Type 0) (a b
   pub told : Tells a.front (tells_of done) b.front
   pub noted : Notes a.players b.players (notes_of done)
   pub refused : AllOnlyWhoRefused done
-
--- the commands of a script were written, each act's whole, up to the last act, at which a write failed: of its commands
--- a part was written
-pub record Called (wrote now : Option (List ℕ)) (script : List Act) (p : Progress) : Type 0 where
-  pub done : List Act
-  pub hand : List Act
-  pub part : List ℕ
-  pub acts : script ≡ done ++ hand
-  pub in_hand : InHand p hand part
-  pub calls : Appends wrote now (calls_of done ++ part)
 
 -- the known bytes behind a `&mut` that may be absent, as the call begins
 abbrev pub known_before : {S : Type 0} → (S → Option (List ℕ)) → Option (MutBor S) → Option (List ℕ)

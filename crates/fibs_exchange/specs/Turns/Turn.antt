@@ -1,8 +1,8 @@
 -- One turn of a client with its stream: the typed line, the lines that are heard, and the end of the connection.
 use Rattle.std.specs.Prelude.{◌≡◌, ◌≢◌, ◌<◌, ℕ, Bool, true, false, List, [], ◌∷◌, ◌++◌, length, take}
-use Rattle.std.specs.Prelude.{Option, Some, None, option_map}
+use Rattle.std.specs.Prelude.{◌⊎◌, Option, Some, None, option_map}
 use Rattle.std.specs.Borrow.{Bor}
-use Rattle.std.specs.Io.KnownBytes.{Appends, Consumes}
+use Rattle.std.specs.Io.KnownBytes.{Consumes}
 use Rattle.fibs_lines.specs.Lines.{lines_of}
 use Rattle.fibs_session.specs.History.Machine.{Talk, Lose, Piece, step, is_online, unconfirmed_now}
 use Rattle.fibs_session.specs.Calls.SessionOf.{ask_of}
@@ -15,7 +15,7 @@ use Rattle.fibs_front.specs.Account.{Accounts}
 use Rattle.fibs_exchange.specs.Turns.Acts.{Act, only_tell}
 use Rattle.fibs_exchange.specs.Turns.Lines.{piece_acts}
 use Rattle.fibs_exchange.specs.Turns.Typing.{talk_after, typed_acts}
-use Rattle.fibs_exchange.specs.Turns.Script.{Outside, Did, Called, calls_of}
+use Rattle.fibs_exchange.specs.Turns.Script.{Outside, Did, Silent, untold}
 
 abbrev pub bytes_of : Option (Bor (List ℕ)) → Option (List ℕ)
 bytes_of None = None
@@ -41,20 +41,20 @@ still_given (Lost waited) given = false
 abbrev pub EndsALine : List ℕ → List ℕ → Type 0
 EndsALine stream fed = (n : ℕ) → n < length fed → lines_of (stream ++ take n fed) ≢ lines_of (stream ++ fed)
 
--- all is fed; after a failed write just up to the end of the line whose command failed
+-- all is fed; or just up to the end of the line at which a fault comes
 abbrev pub Extent : Progress → List ℕ → List ℕ → List ℕ → Type 0
 Extent Whole stream fed rest = rest ≡ []
 Extent Broken stream fed rest = EndsALine stream fed × (0 < length fed)
 
--- a front of these bytes was fed to a client reached by t, and what its lines call for was done
-pub record Talked {F : Type 0} (Tells : F → List SaidValue → F → Type 0) (t : Talk) (new : ClientValue)
-    (bytes : List ℕ) (a b : Outside F) (p : Progress) : Type 0 where
+-- a front of these bytes, up to there, was fed to a client reached by t, and what its lines call for was done so
+pub record Talked (t : Talk) (new : ClientValue) (bytes : List ℕ) (far : Progress) (Does : List Act → Type 0) :
+    Type 0 where
   pub fed : List ℕ
   pub rest : List ℕ
   pub cut : bytes ≡ fed ++ rest
-  pub extent : Extent p t.stream fed rest
+  pub extent : Extent far t.stream fed rest
   pub stands : StandsAfter new (step t (Piece fed)).talk
-  pub did : Did Tells a b (piece_acts t fed) p
+  pub did : Does (piece_acts t fed)
 
 -- ---- the end
 
@@ -108,30 +108,20 @@ abbrev pub Turned : Talk → ClientValue → Option (List ℕ) → Option (List 
     → Outside (Option (List ℕ)) → Outside (Option (List ℕ)) → Ending → Type 0
 Turned = TurnedBy Accounts
 
--- ---- a print that fails
+-- ---- a front end that fails
 
--- a front of these bytes that ends a line was fed to a client reached by t, and its commands were written
-pub record FedToALine (t : Talk) (new : ClientValue) (bytes : List ℕ) (wrote now : Option (List ℕ)) : Type 0 where
-  pub fed : List ℕ
-  pub rest : List ℕ
-  pub cut : bytes ≡ fed ++ rest
-  pub ends : EndsALine t.stream fed × (0 < length fed)
-  pub calls : Appends wrote now (calls_of (piece_acts t fed))
-  pub stands : StandsAfter new (step t (Piece fed)).talk
+-- all that was read is heard; or the turn stops at the end of a line, all of whose commands were written, and what was
+-- read behind that line is not heard
+abbrev pub StopsAt : Ending → List ℕ → List ℕ → List ℕ → Type 0
+StopsAt e stream fed unheard = (unheard ≡ []) ⊎ ((e ≡ Quiet) × EndsALine stream fed × (0 < length fed))
 
--- what is not printed: the answer to the typed line or a line that was heard, up to whose end all is fed, and every
--- write went well; or the end of the connection
-pub data StopsAt (p : Progress) (stream fed rest : List ℕ) (t : Talk) (new : ClientValue) : Type 0 where
-  all_fed : p ≡ Whole → rest ≡ [] → StandsAfter new t → StopsAt p stream fed rest t new
-  line_fed : p ≡ Whole → EndsALine stream fed → 0 < length fed → StandsAfter new t → StopsAt p stream fed rest t new
-  lost : IntakeExtent p stream fed rest → StandsAfter new (step t Lose).talk → StopsAt p stream fed rest t new
-
--- the client is as after its last finished call: one reached by t made the typed call, then it was fed the bytes
--- that were read, all or up to the end of a line, and then it may have lost its connection. The commands of these calls
--- were written, if a write failed all but a part of the last
+-- the client is as after its last finished call, by a turn of which nobody is told: one reached by t made the typed
+-- call, then it was fed the bytes that were read, all or up to the end of a line, and then it may have lost its
+-- connection. The commands of these calls were written, if a write failed all but a part of the last
 pub record Stopped (t : Talk) (new : ClientValue) (typed left still wrote now : Option (List ℕ)) : Type 0 where
-  pub intake : Intake left still
-  pub progress : Progress
-  pub calls : Called wrote now (typed_acts t typed ++ piece_acts (talk_after t typed) intake.fed) progress
-  pub stands : StopsAt progress t.stream intake.fed intake.rest (step (talk_after t typed) (Piece intake.fed)).talk new
-  pub offline : is_online t ≡ false → intake.read ≡ []
+  pub heard : Option (List ℕ)
+  pub unheard : List ℕ
+  pub ending : Ending
+  pub turned : TurnedBy Silent t new typed left heard (untold wrote) (untold now) ending
+  pub behind : Consumes heard still unheard
+  pub stops : StopsAt ending t.stream turned.intake.fed unheard

@@ -1,21 +1,22 @@
-use Rattle.std.proofs.Common.{◌≡◌, ◌++◌, ◌<◌, ◌≤◌, ℕ, List, [], ◌∷◌, length, take, drop, Some, arith}
-use Rattle.std.proofs.Common.{length-take, refl, sym, ap, subst, ◌∙◌, append-nil}
+use Rattle.std.proofs.Common.{◌++◌, ◌<◌, ◌≤◌, ℕ, List, [], ◌∷◌, length, take, drop, Some, arith}
+use Rattle.std.proofs.Common.{length-take, refl, sym, ap, subst, ◌∙◌}
 use Rattle.std.proofs.lemmas.List.{take_rest}
 use Rattle.std.proofs.KnownBytes.{Keeps-refl, Keeps-trans}
 use Rattle.std.specs.Prelude.{option_map}
-use Rattle.std.specs.Io.KnownBytes.{Appends, Keeps}
-use Rattle.fibs_session.specs.History.Machine.{Piece, step}
+use Rattle.std.specs.Io.KnownBytes.{Keeps}
+use Rattle.fibs_session.specs.History.Machine.{Talk, Piece, step}
+use Rattle.fibs_session.specs.Calls.Standing.{StandsAfter}
 use Rattle.fibs_session.specs.Calls.Feeding.{FeedAnswers, Shows}
 use Rattle.fibs_session.specs.Calls.SessionOf.{taken_of}
-use Rattle.fibs_exchange.specs.Turns.Lines.{taken_act, piece_acts}
-use Rattle.fibs_exchange.specs.Turns.Script.{Did, outside, calls_of}
+use Rattle.fibs_exchange.specs.Turns.Lines.{taken_act}
+use Rattle.fibs_exchange.specs.Turns.Turn.{Talked}
+use Rattle.fibs_exchange.specs.Turns.Script.{Did, outside}
 use Rattle.fibs_engine.specs.Writing.{Whole}
 use Rattle.fibs_engine.proofs.WriteLemmas.{front_more}
 use Rattle.fibs_exchange.proofs.TurnLemmas.Scripts.{did_nothing}
 use Rattle.fibs_exchange.proofs.TurnLemmas.Hearing.{taken_acts, acts_taken, taken_online, ends_taken, piece_online}
 use Rattle.fibs_exchange.proofs.TurnLemmas.Turns.{gone_nothing, gone_more, broke_at}
-use Rattle.fibs_exchange.proofs.TurnLemmas.Stops.{line_behind}
-use Rattle.fibs_exchange.proofs.TurnLemmas.Faults.{printed_on, unprinted_on}
+use Rattle.fibs_exchange.proofs.TurnLemmas.Faults.{goes_on}
 use Rattle.fibs_exchange.proofs.hearing.hear_portion.Goals.{in-Some+in_ok-hear_line-in-Some, in-None}
 use Rattle.fibs_exchange.proofs.hearing.hear_portion.Goals as goal
 
@@ -28,13 +29,11 @@ loop-rest-init g c =
 
 pub returns-in_err-hear_line-in-Some-clause-talked : goal.returns-in_err-hear_line-in-Some-clause-talked
 returns-in_err-hear_line-in-Some-clause-talked g c =
-    printed_on c.from_residual.result
-    (λ p. Did g.F.Front.tells (outside (g.S.Write.contents c.loop-rest.stream)
-    c.loop-rest.front c.loop-rest.directory)
-    (outside (g.S.Write.contents c.hear_line.new.stream)
-    c.hear_line.new.front c.hear_line.new.directory)
-    (taken_act (taken_of c.in-Some.taken) ∷ []) p) _ _ c.from_residual.ensures.1
-    (λ did t at.
+    goes_on g.met.F.Front.joins c.from_residual.result _ _ _ _
+    (λ Does far. Does (taken_act (taken_of c.in-Some.taken) ∷ []))
+    (λ Does far. (t : Talk) → StandsAfter c.args.client.now t
+    → Talked t c.read-heard.new.self c.args.portion.now far Does) c.from_residual.ensures.1
+    (λ Late All joined did t at.
     let i = c.loop-rest.invariant in
     let rest = c.loop-rest.rest.now in
     let used = c.read-heard.result.used in
@@ -46,7 +45,7 @@ returns-in_err-hear_line-in-Some-clause-talked g c =
     let fed : FeedAnswers c.loop-rest.client rest used (Some k) = c.read-heard.ensures.answers (Some k) shown in
     broke_at g.met.F.Front.joins c.pieces_join.ensures c.lines_only_grow.ensures t c.read-heard.new.self i.0
     (take used rest)
-    (drop used rest) c.args.portion.now (taken_act k ∷ []) _ _ _
+    (drop used rest) c.args.portion.now (taken_act k ∷ []) _ _ Late All joined
     (front_more c.args.portion.now i.0 rest used i.1)
     (sym (piece_online t i.0) ∙ taken_online c.loop-rest.client rest used k fed u gone.stands) gone.did
     (c.read-heard.ensures.does.stands u gone.stands)
@@ -55,34 +54,6 @@ returns-in_err-hear_line-in-Some-clause-talked g c =
     (long used rest (c.read-heard.ensures.progress
     (grind (arith, c.is_empty.ensures, c.loop-rest-test.true))) c.read-heard.ensures.in_range)
     did) c.in_err-hear_line-in-Some.ensures.did
-
-pub returns-in_err-hear_line-in-Some-clause-stopped : goal.returns-in_err-hear_line-in-Some-clause-stopped
-returns-in_err-hear_line-in-Some-clause-stopped g c =
-    unprinted_on c.from_residual.result _ _ _ c.from_residual.ensures.1
-    (λ wrote t at.
-    let i = c.loop-rest.invariant in
-    let rest = c.loop-rest.rest.now in
-    let used = c.read-heard.result.used in
-    let k = taken_of c.in-Some.taken in
-    let gone = i.2 t at in
-    let u = (step t (Piece i.0)).talk in
-    let shown =
-    subst (λ x. Shows c.read-heard.new.self c.read-heard.result (option_map taken_of x)) c.in-Some.is
-    (c.got-got.ensures.shows c.read-heard.ensures.keeps) in
-    let fed : FeedAnswers c.loop-rest.client rest used (Some k) = c.read-heard.ensures.answers (Some k) shown in
-    let before = g.S.Write.contents c.loop-rest.stream in
-    let after = g.S.Write.contents c.hear_line.new.stream in
-    let calls : (taken_act k).writes ≡ calls_of (piece_acts u (take used rest)) =
-    sym (append-nil (taken_act k).writes)
-    ∙ ap calls_of (sym (acts_taken c.loop-rest.client rest used (Some k) fed u gone.stands)) in
-    line_behind c.pieces_join.ensures c.lines_only_grow.ensures t c.read-heard.new.self i.0 (take used rest)
-    (drop used rest) c.args.portion.now _ _ after (front_more c.args.portion.now i.0 rest used i.1)
-    (sym (piece_online t i.0) ∙ taken_online c.loop-rest.client rest used k fed u gone.stands) gone.did
-    (c.read-heard.ensures.does.stands u gone.stands)
-    (ends_taken c.loop-rest.client rest used k fed c.read-heard.ensures.in_range u gone.stands)
-    (long used rest (c.read-heard.ensures.progress (grind (arith, c.is_empty.ensures, c.loop-rest-test.true)))
-    c.read-heard.ensures.in_range) (subst (Appends before after) calls wrote))
-    c.in_err-hear_line-in-Some.ensures.stopped
 
 pub loop-rest-preserved : goal.loop-rest-preserved
 loop-rest-preserved g c =
