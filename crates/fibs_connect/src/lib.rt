@@ -3,7 +3,7 @@
 
 ghost use Rattle.std.specs.Prelude.{◌≡◌, ◌*◌, IfOk, IfErr};
 ghost use Rattle.std.specs.Io.KnownBytes.{Appends};
-ghost use Rattle.fibs_connect.specs.Converse.Ending.{Conversed, EndsWell, login_fault_line};
+ghost use Rattle.fibs_connect.specs.Converse.Ending.{Conversed, ConversedOver, EndsWell, login_fault_line};
 ghost use Rattle.fibs_front.specs.TypedReads.{SpendsReads};
 ghost use Rattle.fibs_engine.specs.Printing.{line_bytes};
 ghost use Rattle.fibs_engine.specs.Reads.{LostAtMost};
@@ -80,16 +80,8 @@ pub fn converse_with<D: Dial, R: Read, V: Watch, W: Write, E: Write>(
         (W.contents out.old) (W.contents out.new) (E.contents err.old) (E.contents err.new) }
     ensures few { LostAtMost (reads * READ_PORTION) (R.remaining typed.old) (R.remaining typed.new) }
 {
-    let mut lines = TypedLines::new(reads);
-    let mut line = TypedLine::new();
-    lines.read_line(typed, &mut line)?;
-    match Login::new(name, line.as_slice()) {
-        Err(fault) => print_fault(fault, err),
-        Ok(login) => {
-            let front = &mut Plain { out };
-            answer_lines(server, alloc, login, &mut lines, typed, watch, front)
-        }
-    }
+    let mut front = Plain { out };
+    converse_on(server, alloc, name, reads, typed, watch, &mut front, err)
 }
 
 /// The same over any front end. What is wrong with a name or a password is printed on `err`.
@@ -104,6 +96,9 @@ pub fn converse_on<D: Dial, R: Read, V: Watch, F: Words, E: Write>(
     err: &mut E,
 ) -> Result<u8, EngineFault>
     ensures ends { EndsWell result }
+    ensures conversed { ConversedOver name.now (R.remaining typed.old) result (front.new ≡ front.old)
+        (E.contents err.old) (E.contents err.new) }
+    ensures few { LostAtMost (reads * READ_PORTION) (R.remaining typed.old) (R.remaining typed.new) }
 {
     let mut lines = TypedLines::new(reads);
     let mut line = TypedLine::new();

@@ -9,7 +9,9 @@ use Rattle.fibs_commands.specs.Logins.{login_fault, password_fault}
 use Rattle.fibs_commands.specs.PlainCommands.{first_of, name_fault}
 use Rattle.fibs_commands.specs.declared.plain.PlainFault.{PlainFault}
 use Rattle.fibs_commands.specs.declared.plain.PlainFault.TheVariants.{TooLong}
-use Rattle.std.specs.Io.KnownBytes.{prepend_known}
+use Rattle.std.specs.Borrow.{MutBor}
+use Rattle.std.specs.Io.KnownBytes.{Keeps, prepend_known}
+use Rattle.std.proofs.KnownBytes.{Keeps-refl}
 use Rattle.fibs_engine.specs.declared.fault.EngineFault.{EngineFault}
 use Rattle.fibs_front.specs.TypedLines.{typed_line}
 use Rattle.fibs_front.specs.TypedReads.{TakesLine}
@@ -35,21 +37,40 @@ all_ahead waiting (Some typed) e = ap (λ (l : List ℕ). Some (l ++ typed)) e
 
 -- a conversation whose password line was read ends by the fault of the login
 over_by : (name line : List ℕ) (left still : Option (List ℕ)) (found : Bool) (fault : Option PlainFault)
-    (result : Result ℕ EngineFault) (held now other then : Option (List ℕ))
-    → TakesLine left still line found → fault ≡ login_fault name line → EndsBy fault result held now other then
-    → ConversedOver name left result held now other then
-over_by name line None still found fault result held now other then takes is ends = tt
-over_by name line (Some typed) None found fault result held now other then takes is ends = absurd takes
-over_by name line (Some typed) (Some rest) found fault result held now other then takes is ends =
-    subst (λ f. EndsBy f result held now other then) (is ∙ ap (login_fault name) takes.0
+    (result : Result ℕ EngineFault) (Nothing : Type 0) (other then : Option (List ℕ))
+    → TakesLine left still line found → fault ≡ login_fault name line → EndsBy fault result Nothing other then
+    → ConversedOver name left result Nothing other then
+over_by name line None still found fault result Nothing other then takes is ends = tt
+over_by name line (Some typed) None found fault result Nothing other then takes is ends = absurd takes
+over_by name line (Some typed) (Some rest) found fault result Nothing other then takes is ends =
+    subst (λ f. EndsBy f result Nothing other then) (is ∙ ap (login_fault name) takes.0
     ∙ kept_password name (typed_line typed)) ends
 
 -- the first line that was read is the password
 pub conversed_by : (name line waiting : List ℕ) (left still : Option (List ℕ)) (found : Bool)
-    (fault : Option PlainFault) (result : Result ℕ EngineFault) (held now other then : Option (List ℕ))
+    (fault : Option PlainFault) (result : Result ℕ EngineFault) (Nothing : Type 0) (other then : Option (List ℕ))
     → waiting ≡ [] → TakesLine (prepend_known waiting left) still line found → fault ≡ login_fault name line
-    → EndsBy fault result held now other then
-    → ConversedOver name left result held now other then
-conversed_by name line waiting left still found fault result held now other then none takes is ends =
-    over_by name line left still found fault result held now other then
+    → EndsBy fault result Nothing other then
+    → ConversedOver name left result Nothing other then
+conversed_by name line waiting left still found fault result Nothing other then none takes is ends =
+    over_by name line left still found fault result Nothing other then
     (subst (λ l. TakesLine l still line found) (all_ahead waiting left none) takes) is ends
+
+-- what follows from what says that nothing went to the first writer may stand in its place
+pub conversed_weaker : (name : List ℕ) (left : Option (List ℕ)) (result : Result ℕ EngineFault) (P Q : Type 0)
+    (other then : Option (List ℕ)) → (P → Q) → ConversedOver name left result P other then
+    → ConversedOver name left result Q other then
+conversed_weaker name None result P Q other then f h = tt
+conversed_weaker name (Some typed) result P Q other then f h = by_fault (login_fault name (typed_line typed)) h
+  where
+    by_fault : (fault : Option PlainFault) → EndsBy fault result P other then → EndsBy fault result Q other then
+    by_fault None k = k
+    by_fault (Some why) k = (k.0, f k.1)
+
+-- if what has a reference stays the same, so does what the writer behind the reference holds
+pub kept_behind : {F W : Type 0} (out : F → MutBor W) (contents : W → Option (List ℕ)) (a b : F) (x : W)
+    → ((out b).ghost_name ≡ (out a).ghost_name → x ≡ (out b).now) → b ≡ a
+    → Keeps (contents (out a).now) (contents x)
+kept_behind {F} {W} out contents a b x ends same =
+    subst (λ w. Keeps (contents (out a).now) (contents w))
+    (sym (ends (ap (λ c. (out c).ghost_name) same) ∙ ap (λ c. (out c).now) same)) (Keeps-refl (contents (out a).now))

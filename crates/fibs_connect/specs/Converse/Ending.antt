@@ -18,22 +18,22 @@ login_fault_line why = reason_line (codes "fault ") (plain_fault_number why) (pl
 abbrev pub EndsWell : Result ℕ EngineFault → Type 0
 EndsWell result = IfOk result (λ status. (status ≡ 0) ⊎ (status ≡ 3)) × IfErr result (λ why. why ≡ fault.Device)
 
--- a login with a fault is refused on the second writer, with the status 3, and nothing is written on the first writer;
--- after any other login the status is 0, and nothing is written on the second writer
-abbrev pub EndsBy : Option PlainFault → Result ℕ EngineFault
-    → Option (List ℕ) → Option (List ℕ) → Option (List ℕ) → Option (List ℕ) → Type 0
-EndsBy None result held now other then = IfOk result (λ status. status ≡ 0) × Keeps other then
-EndsBy (Some why) result held now other then =
-    IfOk result (λ status. (status ≡ 3) × Appends other then (line_bytes (login_fault_line why))) × Keeps held now
+-- a login with a fault is refused on the second writer, with the status 3, and nothing goes to the first; after any
+-- other login the status is 0, and nothing is written on the second writer
+abbrev pub EndsBy : Option PlainFault → Result ℕ EngineFault → Type 0 → Option (List ℕ) → Option (List ℕ) → Type 0
+EndsBy None result Nothing other then = IfOk result (λ status. status ≡ 0) × Keeps other then
+EndsBy (Some why) result Nothing other then =
+    IfOk result (λ status. (status ≡ 3) × Appends other then (line_bytes (login_fault_line why))) × Nothing
 
 -- if the prover knows the reader's bytes: the first typed line is the password
-abbrev pub ConversedOver : List ℕ → Option (List ℕ) → Result ℕ EngineFault
-    → Option (List ℕ) → Option (List ℕ) → Option (List ℕ) → Option (List ℕ) → Type 0
-ConversedOver name None result held now other then = Unit {0}
-ConversedOver name (Some typed) result held now other then =
-    EndsBy (login_fault name (typed_line typed)) result held now other then
+abbrev pub ConversedOver : List ℕ → Option (List ℕ) → Result ℕ EngineFault → Type 0 → Option (List ℕ)
+    → Option (List ℕ) → Type 0
+ConversedOver name None result Nothing other then = Unit {0}
+ConversedOver name (Some typed) result Nothing other then =
+    EndsBy (login_fault name (typed_line typed)) result Nothing other then
 
 -- how a conversation under this name ended: what its reader had left, and what its two writers hold, before and after
 abbrev pub Conversed : List ℕ → Result ℕ EngineFault
     → Option (List ℕ) → Option (List ℕ) → Option (List ℕ) → Option (List ℕ) → Option (List ℕ) → Type 0
-Conversed name result left held now other then = EndsWell result × ConversedOver name left result held now other then
+Conversed name result left held now other then =
+    EndsWell result × ConversedOver name left result (Keeps held now) other then
