@@ -33,8 +33,8 @@ from witness import AGAINST_THE_RULES, BY_ITSELF, Wire, Witnessed
 from habits import Habits
 from wire import Manners
 
-# How long a match may take; how long a bot waits before it asks for the board; how long before it connects again.
-LONGEST, QUIET, AGAIN = 300, 1.0, 0.02
+# How long nobody may decide anything; how long a bot waits before it asks for the board, and before it connects again.
+STILL, QUIET, AGAIN = 120, 1.0, 0.02
 DECISIONS = 'roll', 'double', 'accept', 'reject', 'move'
 WANTED = ['connections', 'cut off', 'lost with a decision', 'the last did not arrive', *DECISIONS]
 
@@ -167,9 +167,12 @@ class Match:
             self.servers.append(server)
             bots.append(Bot(self, name, other, server.sockets[0].getsockname()[1], name == 'ann'))
         playing = [asyncio.ensure_future(bot.plays()) for bot in bots]
-        while not self.room.ended and time.monotonic() - began < LONGEST:
+        decisions = 0
+        while not self.room.ended and time.monotonic() - began < STILL:
             if self.faults or any(one.done() for one in playing):
                 break
+            if decisions < sum(self.seen[kind] for kind in DECISIONS):
+                decisions, began = sum(self.seen[kind] for kind in DECISIONS), time.monotonic()
             await asyncio.sleep(0.02)
         await asyncio.sleep(0.1)
         self.is_over = True
@@ -178,7 +181,7 @@ class Match:
         await asyncio.wait(playing, timeout=3 * QUIET)
         for server in self.servers:
             server.close()
-        self.wrong(not self.room.ended and not self.faults, 'the match does not end')
+        self.wrong(not self.room.ended and not self.faults, 'the match stands still')
         for bot in bots:
             self.judge(bot)
 
