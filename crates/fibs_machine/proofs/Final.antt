@@ -1,66 +1,53 @@
 -- The headline, after every list of events.
 use Rattle.std.proofs.Common.{◌≡◌, ℕ, ◌+◌, ◌<◌, ◌≤◌, Bool, true, false, List, [], ◌∷◌, ◌++◌, Option, Some, None, nat_eq}
-use Rattle.std.proofs.Common.{take, length, refl, sym, ◌∙◌, ap, subst, inl, inr, ◌⊎◌, true≢false, arith}
-use Rattle.std.proofs.Common.{length-append}
-use Rattle.std.proofs.lemmas.Bool.Decides.{eqb_tells}
-use Rattle.fibs_boards.specs.Board.{BoardFields as Board}
+use Rattle.std.proofs.Common.{length, refl, sym, ◌∙◌, ap, subst, inl, inr, ◌⊎◌, true≢false, arith, length-append}
+use Rattle.std.proofs.Common.{append-nil}
+use Rattle.std.proofs.lemmas.Bool.Decides.{eqb_tells, nat_tests}
+use Rattle.fibs_boards.specs.Board.{BoardFields as Board, spelling}
 use Rattle.fibs_position.specs.DecisionValue.{DecisionValue as Decision}
 use Rattle.fibs_history.specs.declared.refusal.Refusal.{Refusal}
-use Rattle.fibs_history.specs.Log.{Entry, Opened, LoggedIn, Welcomed, Informed, Shown, Took, Lost, Ordered}
-use Rattle.fibs_history.specs.Log.{Withdrawn}
+use Rattle.fibs_history.specs.Log.{Entry, Opened, LoggedIn, Welcomed, Informed, Shown, Took, Lost, Ordered, Withdrawn}
 use Rattle.fibs_history.specs.Orders.{is_due}
 use Rattle.fibs_history.specs.Words.{Ask, is_empty, open_now, shown, sent, took, unconfirmed, answer}
 use Rattle.std.specs.Prelude.{nat_lt}
-use Rattle.std.proofs.Common.{append-nil}
 use Rattle.fibs_messages.specs.Line.{ReadingValue, numbered_line, board_line, text_line, malformed_line}
 use Rattle.fibs_history.specs.declared.refusal.PlainRefusal.{PlainRefusal}
-use Rattle.fibs_history.specs.Hearing.{nothing_heard, flags_of, shows_board}
-use Rattle.fibs_history.specs.Machine.{plain_refusal, order_refusal, withdraw_refusal}
-use Rattle.fibs_machine.specs.Wires.{delivered, taken, next_line}
+use Rattle.fibs_history.specs.Hearing.{nothing_heard, flags_of, shows_board, line_reading}
+use Rattle.fibs_history.specs.Machine.{plain_refusal, order_refusal, withdraw_refusal, on_wire, gained}
+use Rattle.fibs_machine.specs.Wires.{taken, next_line}
 use Rattle.fibs_position.specs.BoardEffect.{is_die}
-use Rattle.fibs_machine.specs.Server.{decision_in, command, effect, carried, obeyed}
-use Rattle.fibs_machine.specs.Server.{Stale, LoggedIn as LoggedInNow}
+use Rattle.fibs_machine.specs.Server.{decision_in, command, effect, carried, obeyed, Stale, LoggedIn as LoggedInNow}
 use Rattle.fibs_machine.specs.Events.{Event, Open, Click, Plain, Deliver, Lose, Serve}
 use Rattle.fibs_machine.specs.Events.{Own, Repeat, Text, Order, Withdraw}
 use Rattle.fibs_machine.specs.World.{does_heard, does_served, sends_plain, notes_unless, talk_of, World, noted, linked}
-use Rattle.fibs_machine.specs.World.{sends}
-use Rattle.fibs_machine.specs.World.{is_talking, sends_out, clicks, hears, hears_all}
-use Rattle.fibs_machine.proofs.Answering.{answered_at as answered_now, takes_line}
-use Rattle.fibs_machine.proofs.Answering.{obeys, carries_out}
-use Rattle.fibs_machine.specs.World.{serves, after, start}
+use Rattle.fibs_machine.specs.World.{sends, is_talking, sends_out, clicks, hears, hears_all, serves, after, start}
+use Rattle.fibs_machine.proofs.Answering.{answered_at as answered_now, takes_line, obeys, carries_out}
 use Rattle.fibs_machine.specs.Refusals.{refusal}
 use Rattle.fibs_machine.specs.Headline.{Headline, IsAtRest, AllLegal, AllGood, AllAtMost}
 use Rattle.fibs_machine.specs.Stale.{NoneStale}
 use Rattle.fibs_machine.specs.Runs.{AllAccepted, after_all}
 use Rattle.fibs_machine.proofs.Lawful.{Lawful, IsQuiet}
 use Rattle.fibs_lines.specs.Lines.{ReadLine as Line}
-use Rattle.fibs_history.specs.Machine.{on_wire, gained}
 use Rattle.fibs_machine.proofs.wires.Ways.{OnWay, way_serve, way_some, way_served}
 use Rattle.fibs_machine.proofs.wires.Boards.{waiting, boards, gained_none}
 use Rattle.fibs_machine.proofs.joint.Joint.{log_of, Live, Held, Current, Joint, current}
 use Rattle.fibs_history.proofs.Lists.{to_list}
 use Rattle.fibs_machine.proofs.joint.Sending.{if_fact, same_test}
 use Rattle.fibs_history.proofs.Words.{yes}
-use Rattle.fibs_machine.proofs.joint.EachEvent.{served, joint_after, joint_start}
+use Rattle.fibs_machine.proofs.joint.EachEvent.{served, joint_after, joint_start, Served}
 use Rattle.fibs_machine.proofs.log.Moved.{all_moved_on}
 use Rattle.fibs_machine.proofs.log.Called.{own_of, clicks_sent_of, orders_sent_of}
 use Rattle.fibs_machine.proofs.log.Due.{due_rolls}
-use Rattle.fibs_machine.proofs.ClientActs.{does_hears}
+use Rattle.fibs_machine.proofs.ClientActs.{does_hears, given, lines_at}
 use Rattle.fibs_machine.proofs.log.Fitting.{answered, on_shown, shown_here}
 use Rattle.fibs_machine.proofs.Numbered.{all_numbers}
 use Rattle.fibs_machine.proofs.Projection.{talk_is_projected}
-use Rattle.fibs_machine.proofs.log.Told.{Told, AllAllowed, AllPass, IsPlain, told_plain}
-use Rattle.fibs_machine.proofs.log.Told.{told_shown, told_rolled, told_no}
-use Rattle.fibs_machine.proofs.log.Told.{told_yes}
-use Rattle.fibs_machine.proofs.log.Told.{told_took}
+use Rattle.fibs_machine.proofs.log.Told.{Told, AllAllowed, AllPass, IsPlain, told_plain, told_shown, told_rolled}
+use Rattle.fibs_machine.proofs.log.Told.{told_no, told_yes, told_took}
 use Rattle.fibs_commands.specs.PlainCommands.{PlainValue}
-use Rattle.fibs_history.specs.Hearing.{line_reading}
-use Rattle.fibs_boards.specs.Board.{spelling}
 use Rattle.fibs_history.specs.Allows.{allows}
 use Rattle.fibs_position.specs.GamePart.{same_game}
 use Rattle.fibs_position.specs.GoodBoard.{good as is_good}
-use Rattle.std.proofs.lemmas.Bool.Decides.{nat_tests}
-use Rattle.fibs_machine.proofs.joint.EachEvent.{Served}
 
 module _ (law : Lawful) where
   -- what the headline says holds of the log of a world
@@ -185,9 +172,8 @@ module _ (law : Lawful) where
   told_after login w Open j k h = told_plain w.log (Opened (w.count + 1)) tt h
   told_after login w (Click d) j k h = told_click w d h
   told_after login w (Plain p) j k h = told_said w p (plain_refusal (talk_of login w) p) h
-  told_after login w (Deliver n) j k h = told_hears_all (open_now w.log)
-      (linked w (open_now w.log) (delivered (w.links (open_now w.log)) n))
-      (gained (w.links (open_now w.log)).heard (take n (w.links (open_now w.log)).coming)) refl h
+  told_after login w (Deliver n) j k h =
+      told_hears_all (open_now w.log) (given w (Deliver n)) (lines_at w (Deliver n)) refl h
   told_after login w (Lose n) j k h =
       told_plain w.log (Lost (open_now w.log) (unconfirmed same_game (open_now w.log) w.log)) tt h
   told_after login w (Serve c d1 d2) j k h =

@@ -11,11 +11,10 @@ use Rattle.fibs_position.specs.GoodBoard.{IsGood, good}
 use Rattle.fibs_position.specs.GamePart.{Differ, same_game}
 use Rattle.fibs_commands.specs.PlainCommands.{PlainValue, plain_of, plain_fault_of}
 use Rattle.fibs_commands.specs.FirstCommands.{style_text}
-use Rattle.fibs_history.specs.Hearing.{initial_commands}
+use Rattle.fibs_history.specs.Hearing.{initial_commands, line_reading}
 use Rattle.fibs_history.specs.Log.{Entry}
 use Rattle.fibs_history.specs.Orders.{is_due}
 use Rattle.fibs_history.specs.Words.{IsLikeness, answer}
-use Rattle.fibs_history.specs.Hearing.{line_reading}
 use Rattle.fibs_history.specs.Allows.{allows}
 use Rattle.fibs_history.specs.Machine.{on_wire}
 use Rattle.fibs_position.specs.BoardEffect.{is_die}

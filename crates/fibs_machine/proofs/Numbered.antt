@@ -6,15 +6,13 @@ use Rattle.fibs_history.specs.Log as L
 use Rattle.fibs_history.specs.Log.{Entry}
 use Rattle.fibs_history.specs.Machine.{on_wire}
 use Rattle.fibs_history.specs.Words.{is_empty, open_now, unconfirmed}
-use Rattle.fibs_machine.specs.Events.{Event, Open, Lose, Serve}
-use Rattle.fibs_machine.specs.Events.{Own, Repeat, Text}
+use Rattle.fibs_machine.specs.Events.{Event, Open, Lose, Serve, Own, Repeat, Text}
 use Rattle.fibs_machine.specs.Headline.{AllAtMost, conn_of}
 use Rattle.fibs_machine.specs.Refusals.{refusal}
 use Rattle.fibs_machine.specs.Runs.{AllAccepted, after_all}
 use Rattle.fibs_machine.specs.Talks.{IsWorld}
 use Rattle.fibs_machine.specs.Wires.{next_line, taken}
-use Rattle.fibs_machine.specs.World.{World, after, noted, linked}
-use Rattle.fibs_machine.specs.World.{serves}
+use Rattle.fibs_machine.specs.World.{World, after, noted, linked, serves}
 use Rattle.fibs_machine.proofs.Answering.{answered_at}
 use Rattle.fibs_machine.proofs.ClientActs.{does}
 use Rattle.fibs_machine.proofs.ServerActs.{Answers, answers_line, answers_served}

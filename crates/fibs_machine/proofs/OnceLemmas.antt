@@ -11,8 +11,7 @@ use Rattle.fibs_position.specs.GoodBoard.{good as is_good}
 use Rattle.fibs_position.specs.Laws.{EffectIsExact, EffectIsGood, NoThreeInARow}
 use Rattle.fibs_history.specs.Log.{Entry, Took}
 use Rattle.fibs_machine.specs.Events.{Event, Own}
-use Rattle.fibs_machine.specs.Once.{taken_by, taken_on, OneStep, NoneOwn, NoTwoAlike, TakesOnce}
-use Rattle.fibs_machine.specs.Once.{OnceHolds}
+use Rattle.fibs_machine.specs.Once.{taken_by, taken_on, OneStep, NoneOwn, NoTwoAlike, TakesOnce, OnceHolds}
 use Rattle.fibs_machine.specs.Refusals.{refusal}
 use Rattle.fibs_machine.specs.Runs.{after_all, world_after}
 use Rattle.fibs_machine.specs.Server.{user_decides}

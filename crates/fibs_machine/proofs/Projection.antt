@@ -14,12 +14,11 @@ use Rattle.fibs_history.specs.Log.{Entry}
 use Rattle.fibs_history.specs.Log as L
 use Rattle.fibs_history.specs.Words.{is_empty, open_from, open_now, opened_by, connections, unconfirmed, answer}
 use Rattle.fibs_history.specs.Hearing.{Heard, heard, line_reading}
-use Rattle.fibs_history.specs.Machine.{Talk, Step, step, noted as talk_noted, does, stays}
-use Rattle.fibs_history.specs.Machine.{opened, loses, reads, with_bytes}
-use Rattle.fibs_history.specs.Machine.{hears_all as talk_hears_all, clicks_by, decides_on}
+use Rattle.fibs_history.specs.Machine.{Talk, Step, step, noted as talk_noted, does, stays, opened, loses, reads}
+use Rattle.fibs_history.specs.Machine.{with_bytes, hears_all as talk_hears_all, clicks_by, decides_on}
+use Rattle.fibs_history.specs.Machine.{sends_plain as talk_sends_plain, plain_refusal, gained, on_wire, wire_of}
+use Rattle.fibs_history.specs.Machine.{notes_if, order_refusal, withdraw_refusal}
 use Rattle.fibs_history.specs.Allows.{allows}
-use Rattle.fibs_history.specs.Machine.{sends_plain as talk_sends_plain, plain_refusal}
-use Rattle.fibs_history.specs.Machine.{gained, on_wire, wire_of, notes_if, order_refusal, withdraw_refusal}
 use Rattle.fibs_history.specs.Machine as M
 use Rattle.fibs_machine.specs.Wires.{Link, delivered, more_asked, taken, cut_off, next_line}
 use Rattle.fibs_machine.specs.Server.{command}

@@ -12,15 +12,13 @@ use Rattle.fibs_history.specs.Log.{Entry, Opened, Took, Undone, Lost}
 use Rattle.fibs_history.specs.Log as L
 use Rattle.fibs_history.specs.Machine.{on_wire}
 use Rattle.fibs_history.specs.Words.{is_empty, open_now, unconfirmed}
-use Rattle.fibs_machine.specs.Events.{Event, Open, Lose, Serve}
-use Rattle.fibs_machine.specs.Events.{Own, Repeat, Text}
+use Rattle.fibs_machine.specs.Events.{Event, Open, Lose, Serve, Own, Repeat, Text}
 use Rattle.fibs_machine.specs.Once.{taken_on, Leaves, Takes, NoneOwn}
 use Rattle.fibs_machine.specs.Server.{Served, effect, carried, obeyed, decision_in}
 use Rattle.fibs_machine.specs.Server as V
 use Rattle.fibs_machine.specs.Wires.{Link, taken, next_line}
-use Rattle.fibs_machine.specs.World.{World, after, noted, linked, sends, is_talking}
-use Rattle.fibs_machine.specs.World.{does_served, serves}
-use Rattle.fibs_machine.proofs.Answering.{answered_at as answered, takes_line}
+use Rattle.fibs_machine.specs.World.{World, after, noted, linked, sends, does_served, serves}
+use Rattle.fibs_machine.proofs.Answering.{answered_at as answered}
 use Rattle.fibs_machine.proofs.ClientActs.{NoAnswers, does}
 use Rattle.fibs_machine.proofs.ServerActs.{sends_board, sends_log}
 use Rattle.fibs_machine.proofs.joint.Sending.{if_fact}
@@ -45,7 +43,7 @@ adds_same w w' b l = record { board = b; more = []; log = l ∙ sym (append-nil 
 
 -- a line is sent
 adds_sends : (w : World) (t : List ℕ) → Adds w (sends w t)
-adds_sends w t = if_fact (Adds w) (is_talking w) _ _ (λ z. adds_same w _ refl refl) (λ z. adds_same w w refl refl)
+adds_sends w t = adds_same w (sends w t) (sends_board w t) (sends_log w t)
 
 -- of the server's answer: a decision is one of the connection logged in, and what is carried out leads to that board
 abbrev pub Fits : Board → ℕ → ℕ → ℕ → ℕ → Served → Type 0
@@ -79,14 +77,14 @@ Moves w w' e = Leaves w w' ⊎ Takes w w' e
 leaves : (w w' : World) → Adds w w' → Leaves w w'
 leaves w w' a = record { board = a.board; noted = a.more; log = a.log; none = none_taken a.more a.none }
 
--- what the server does at a line
-moves_served : EffectIsExact → EffectIsGood → (c d1 d2 : ℕ) (w : World) (s : Served)
-    → Fits w.board w.logged_in c d1 d2 s → Moves w (does_served c w s) (Serve c d1 d2)
-moves_served exact good c d1 d2 w V.Stale h = inl (leaves w w (adds_same w w refl refl))
-moves_served exact good c d1 d2 w V.LoggedIn h =
+-- what the server does at a line, after other wires were changed
+moves_served : EffectIsExact → EffectIsGood → (c d1 d2 : ℕ) (w : World) (l : Link) (s : Served)
+    → Fits w.board w.logged_in c d1 d2 s → Moves w (does_served c (linked w c l) s) (Serve c d1 d2)
+moves_served exact good c d1 d2 w l V.Stale h = inl (leaves w _ (adds_same w (linked w c l) refl refl))
+moves_served exact good c d1 d2 w l V.LoggedIn h =
     inl (record { board = refl; noted = L.LoggedIn c ∷ []; log = refl; none = refl })
-moves_served exact good c d1 d2 w (V.Took d b) h =
-    let n : World = noted (record w { board = b }) (Took c w.board d ∷ []) in
+moves_served exact good c d1 d2 w l (V.Took d b) h =
+    let n : World = noted (record (linked w c l) { board = b }) (Took c w.board d ∷ []) in
     let e = (exact w.board d (d1 ∷ d2 ∷ []) b).0 h.1 in
     let same : b ≡ (sends n (spelling b)).board = sym (sends_board n (spelling b)) in
     inr (record {
@@ -99,29 +97,17 @@ moves_served exact good c d1 d2 w (V.Took d b) h =
       leads = subst (Effect w.board d (d1 ∷ d2 ∷ [])) same e;
       differs = subst (Differ w.board) same (good w.board d (d1 ∷ d2 ∷ []) b e).1;
     })
-moves_served exact good c d1 d2 w (V.Undone d) h =
-    let n : World = noted w (Undone c w.board d ∷ []) in
+moves_served exact good c d1 d2 w l (V.Undone d) h =
+    let n : World = noted (linked w c l) (Undone c w.board d ∷ []) in
     inl (record {
       board = sends_board n (spelling w.board);
       noted = Undone c w.board d ∷ [];
       log = sends_log n (spelling w.board);
       none = refl;
     })
-moves_served exact good c d1 d2 w V.Answered h = inl (leaves w _ (adds_sends w (spelling w.board)))
-
--- on wires that were changed before
-moves_linked : (w w' : World) (c : ℕ) (l : Link) (e : Event) → Moves (linked w c l) w' e → Moves w w' e
-moves_linked w w' c l e (inl x) = inl (record { board = x.board; noted = x.noted; log = x.log; none = x.none })
-moves_linked w w' c l e (inr x) = inr (record {
-  conn = x.conn;
-  die = x.die;
-  other_die = x.other_die;
-  event = x.event;
-  decision = x.decision;
-  log = x.log;
-  leads = x.leads;
-  differs = x.differs;
-})
+moves_served exact good c d1 d2 w l V.Answered h =
+    let n : World = linked w c l in
+    inl (leaves w _ (adds_same w _ (sends_board n (spelling w.board)) (sends_log n (spelling w.board))))
 
 -- the server takes a line, if there is one
 moves_line : EffectIsExact → EffectIsGood → (w : World) (c d1 d2 : ℕ) (o : Option (List ℕ × List ℕ))
@@ -130,9 +116,8 @@ moves_line exact good w c d1 d2 None = inl (leaves w w (adds_same w w refl refl)
 moves_line exact good w c d1 d2 (Some p) =
     let l : Link = taken (w.links c) (on_wire p.0) p.1 in
     let first = is_empty (w.links c).served in
-    moves_linked w (takes_line c (linked w c l) first p.0 d1 d2) c l (Serve c d1 d2)
-    (moves_served exact good c d1 d2 (linked w c l) (answered w.board w.logged_in c first p.0 d1 d2)
-    (fits w.board w.logged_in c first p.0 d1 d2))
+    moves_served exact good c d1 d2 w l (answered w.board w.logged_in c first p.0 d1 d2)
+    (fits w.board w.logged_in c first p.0 d1 d2)
 
 -- an event at which the server neither takes a line nor makes a board of its own
 abbrev pub IsSilent : Event → Type 0

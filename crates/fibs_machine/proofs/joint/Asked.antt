@@ -16,9 +16,8 @@ use Rattle.fibs_machine.specs.World.{World, noted, asks}
 use Rattle.fibs_machine.proofs.Lawful.{Lawful}
 use Rattle.fibs_history.proofs.Lists.{to_list, same_number, other_number, one_of_false, one_of_true, before_last}
 use Rattle.fibs_history.proofs.Lists.{map_more, map_no_more}
-use Rattle.fibs_history.proofs.Moving.{has_moved_on}
+use Rattle.fibs_history.proofs.Moving.{has_moved_on, moved_sent}
 use Rattle.fibs_history.proofs.Past.{open_append, spent_sent}
-use Rattle.fibs_history.proofs.Moving.{moved_sent}
 use Rattle.fibs_machine.proofs.wires.Boards.{waiting}
 use Rattle.fibs_machine.proofs.wires.Ways.{OnWay, way_decision}
 use Rattle.fibs_machine.proofs.joint.Joint.{log_of, Calm, Free, Live, Current, Joint, current, same_log, linked_same}

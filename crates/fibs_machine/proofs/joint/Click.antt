@@ -1,5 +1,5 @@
 -- The joint statement is kept if the user clicks.
-use Rattle.std.proofs.Common.{◌≡◌, ℕ, ◌<◌, false, [], ◌∷◌, Option, Some, None, refl, ap, subst, inl, inr}
+use Rattle.std.proofs.Common.{◌≡◌, ◌<◌, false, [], ◌∷◌, Option, Some, None, refl, ap, subst, inl, inr}
 use Rattle.fibs_position.specs.DecisionValue.{DecisionValue as Decision}
 use Rattle.fibs_position.specs.GamePart.{same_game}
 use Rattle.fibs_history.specs.declared.refusal.Refusal.{Refusal}
@@ -9,14 +9,9 @@ use Rattle.fibs_history.specs.Words.{last, open_now, shown, is_spent, answer}
 use Rattle.fibs_machine.specs.World.{World, clicks}
 use Rattle.fibs_machine.proofs.Lawful.{Lawful}
 use Rattle.fibs_history.proofs.Words.{Yes, yes}
-use Rattle.fibs_machine.proofs.joint.Asked.{ChangesNothing, joint_asked}
+use Rattle.fibs_machine.proofs.joint.Asked.{joint_asked}
 use Rattle.fibs_machine.proofs.joint.Joint.{Joint}
 use Rattle.fibs_machine.proofs.joint.Sending.{joint_noted, which}
-
--- a click says nothing of the wires and the boards
-click_alone : (c : ℕ) (d : Decision) → ChangesNothing (Clicked c d None ∷ [])
-click_alone c d =
-    record { shows_none = λ e. refl; sends_none = λ e. refl; takes_none = λ e. refl; stays_open = λ o. refl }
 
 module _ (law : Lawful) where
   -- a click keeps the joint statement, with each answer
@@ -34,7 +29,8 @@ module _ (law : Lawful) where
           subst (λ c. (0 < c) × (is_spent same_game c w.log ≡ false) × (last (shown c w.log) ≡ Some y.on)) k
           (y.some, y.fresh, y.is_last) in
           rw y.is_last (rw k (joint_asked law [] w (Clicked w.logged_in d None ∷ []) d y.on
-          (click_alone w.logged_in d) j k z.0 z.1 z.2 y.allowed))
+          (record { shows_none = λ e. refl; sends_none = λ e. refl; takes_none = λ e. refl; stays_open = λ o. refl }) j
+          k z.0 z.1 z.2 y.allowed))
         where
           here : Yes same_game allows w.log d → open_now w.log ≡ w.logged_in
           here y = elim (which [] w (open_now w.log) j refl y.some) [

@@ -1,7 +1,6 @@
 -- The joint statement is kept if the client hears lines.
 use Rattle.std.proofs.Common.{◌≡◌, ℕ, ◌<◌, Bool, true, false, ◌&&◌, List, [], ◌∷◌, ◌++◌, Option, Some, None, nat_eq}
-use Rattle.std.proofs.Common.{take}
-use Rattle.std.proofs.Common.{drop, refl, sym, ◌∙◌, ap, subst, inl, inr, ◌⊎◌, append-nil, append_assoc}
+use Rattle.std.proofs.Common.{take, drop, refl, sym, ◌∙◌, ap, subst, inl, inr, ◌⊎◌, append-nil, append_assoc}
 use Rattle.std.proofs.Common.{true≢false, arith}
 use Rattle.std.proofs.Math.Seq.{take-nil, drop-nil}
 use Rattle.std.proofs.lemmas.Option.{same_Some}
@@ -15,27 +14,23 @@ use Rattle.fibs_history.specs.Words.{informed, is_spent}
 use Rattle.fibs_machine.specs.Wires.{Link, delivered}
 use Rattle.fibs_machine.specs.Server.{command}
 use Rattle.fibs_machine.specs.World.{does_heard, World, noted, linked, asks, hears, hears_all}
-use Rattle.fibs_history.proofs.Moving.{has_moved_on}
+use Rattle.fibs_history.proofs.Moving.{has_moved_on, moved_shown}
 use Rattle.fibs_machine.proofs.Lawful.{Lawful, AllQuiet}
 use Rattle.std.specs.Prelude.{if◌then◌else◌}
 use Rattle.fibs_messages.specs.Line.{ReadingValue, numbered_line, board_line, text_line, malformed_line}
 use Rattle.fibs_commands.specs.FirstCommands.{style_text}
-use Rattle.fibs_history.specs.Hearing.{initial_commands}
-use Rattle.fibs_history.specs.Hearing.{Heard, nothing_heard, flags_of, shows_board}
+use Rattle.fibs_history.specs.Hearing.{initial_commands, Heard, nothing_heard, flags_of, shows_board, line_reading}
 use Rattle.fibs_lines.specs.Lines.{ReadLine as Line}
 use Rattle.fibs_history.specs.Machine.{gained}
-use Rattle.fibs_history.proofs.Lists.{other_number, and_left, and_right, and_both, one_of_false, last_snoc}
-use Rattle.fibs_history.proofs.Lists.{map_no_more}
+use Rattle.fibs_history.proofs.Lists.{other_number, and_left, and_right, and_both, one_of_false, last_snoc, map_no_more}
+use Rattle.fibs_history.proofs.Lists.{to_list}
 use Rattle.fibs_history.proofs.Past.{open_append, shown_more, spent_first, spent_same, spent_other}
-use Rattle.fibs_history.proofs.Moving.{moved_shown}
 use Rattle.fibs_machine.proofs.log.Due.{due_rolls}
 use Rattle.fibs_machine.proofs.joint.Asked.{joint_asked, no_entries}
 use Rattle.fibs_machine.proofs.wires.Boards.{waiting, boards, board_of, boards_split, whole_split, gained_none}
 use Rattle.fibs_machine.proofs.joint.Joint.{log_of, Calm, Free, Done, Live, Held, Joint, current, current_with}
 use Rattle.fibs_machine.proofs.joint.Joint.{ahead_with, same_log, joint_current, joint_rewired, joint_rewired_ahead}
-use Rattle.fibs_history.proofs.Lists.{to_list}
 use Rattle.fibs_machine.proofs.joint.Sending.{joint_noted, joint_asks, which, same_test, if_fact}
-use Rattle.fibs_history.specs.Hearing.{line_reading}
 use Rattle.fibs_position.specs.GamePart.{same_game}
 use Rattle.fibs_position.specs.GoodBoard.{good as is_good}
 

@@ -5,14 +5,14 @@ use Rattle.std.proofs.Common.{None, is_some, ◌∙◌, append-nil, append_assoc
 use Rattle.std.proofs.lemmas.Bool.{eqb-true, ltb-false, not-false, or_parts}
 use Rattle.fibs_boards.specs.Board.{BoardFields as Board}
 use Rattle.fibs_history.specs.Words.{open_now}
-use Rattle.fibs_commands.specs.PlainCommands.{PlainValue, plain_fault_of}
+use Rattle.fibs_commands.specs.PlainCommands.{PlainValue, plain_fault_of, plain_of}
 use Rattle.fibs_commands.specs.declared.plain.PlainFault.{PlainFault}
 use Rattle.std.specs.Prelude.{option_map}
 use Rattle.fibs_history.specs.declared.refusal.PlainRefusal.{PlainRefusal}
 use Rattle.fibs_history.specs.declared.refusal.PlainRefusal.TheVariants as P
 use Rattle.fibs_history.specs.declared.refusal.Refusal.{Refusal}
 use Rattle.fibs_history.specs.Log.{Entry, Ordered, Withdrawn}
-use Rattle.fibs_history.specs.Machine.{plain_refusal, may_send, order_refusal, withdraw_refusal}
+use Rattle.fibs_history.specs.Machine.{plain_refusal, may_send, order_refusal, withdraw_refusal, on_wire}
 use Rattle.fibs_machine.specs.Acts.{Act, acts_on, acts_from}
 use Rattle.fibs_machine.specs.Runs.{AllAccepted, after_all}
 use Rattle.fibs_machine.specs.Wires.{next_line}
@@ -26,7 +26,6 @@ use Rattle.fibs_machine.specs.declared.refusal.WorldRefusal.TheVariants.{Already
 use Rattle.fibs_machine.specs.Refusals.{refusal, is_board_text}
 use Rattle.fibs_machine.proofs.Lawful.{IsQuiet, Lawful}
 use Rattle.fibs_lines.specs.Lines.{lines_of}
-use Rattle.fibs_history.specs.Machine.{on_wire}
 use Rattle.fibs_history.proofs.Lists.{and_left, and_right, other_number}
 use Rattle.fibs_machine.proofs.wires.Ways.{way_none}
 use Rattle.fibs_machine.proofs.wires.Boards.{whole_none, text_boards}
@@ -36,7 +35,6 @@ use Rattle.fibs_machine.proofs.joint.Asked.{ChangesNothing}
 use Rattle.fibs_machine.proofs.joint.Deliver.{joint_deliver}
 use Rattle.fibs_machine.proofs.joint.Click.{joint_click}
 use Rattle.fibs_machine.proofs.joint.Turns.{joint_open, joint_lose, joint_serve}
-use Rattle.fibs_commands.specs.PlainCommands.{plain_of}
 use Rattle.fibs_position.specs.GoodBoard.{good as is_good}
 
 -- nothing refused: each test failed
@@ -104,22 +102,7 @@ said login w p h =
     let s = said_if (nat_eq (open_now w.log) 0) (may_send (talk_of login w) p) (plain_fault_of p) h in
     (number_of _ s.0, s.1)
 
--- an order says nothing of the wires and the boards
-order_alone : (c : ℕ) → ChangesNothing (Ordered c ∷ [])
-order_alone c = record {
-  shows_none = λ d. refl;
-  sends_none = λ d. refl;
-  takes_none = λ d. refl;
-  stays_open =
-      λ o. refl;
-}
-
--- nor does its end
-withdrawal_alone : (c : ℕ) → ChangesNothing (Withdrawn c ∷ [])
-withdrawal_alone c =
-    record { shows_none = λ d. refl; sends_none = λ d. refl; takes_none = λ d. refl; stays_open = λ o. refl }
-
--- such an entry keeps the joint statement, noted or not
+-- an order, given or withdrawn, keeps the joint statement, noted or not
 joint_unless : (w : World) (e : Entry) (o : Option Refusal) → ChangesNothing (e ∷ []) → Joint [] w
     → Joint [] (notes_unless w e o)
 joint_unless w e (Some why) idle j = j
@@ -160,9 +143,11 @@ module _ (law : Lawful) where
       joint_text law w t j
       (text_boards law (lines_of (on_wire t)) (not_refused (is_board_text (lines_of (on_wire t))) _ _ h).0)
   joint_after login quiet w Order j h =
-      joint_unless w (Ordered (open_now w.log)) (order_refusal w.log) (order_alone (open_now w.log)) j
+      joint_unless w (Ordered (open_now w.log)) (order_refusal w.log)
+      (record { shows_none = λ e. refl; sends_none = λ e. refl; takes_none = λ e. refl; stays_open = λ o. refl }) j
   joint_after login quiet w Withdraw j h =
-      joint_unless w (Withdrawn (open_now w.log)) (withdraw_refusal w.log) (withdrawal_alone (open_now w.log)) j
+      joint_unless w (Withdrawn (open_now w.log)) (withdraw_refusal w.log)
+      (record { shows_none = λ e. refl; sends_none = λ e. refl; takes_none = λ e. refl; stays_open = λ o. refl }) j
 
   -- What each event keeps of the server's acts on each connection holds after every list of events. It is to be the
   -- same in other words for the acts.

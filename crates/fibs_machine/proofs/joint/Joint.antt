@@ -9,10 +9,9 @@ use Rattle.fibs_history.specs.Words.{sent, took, is_spent}
 use Rattle.fibs_machine.specs.Wires.{Link}
 use Rattle.fibs_machine.specs.Server.{user_decides}
 use Rattle.fibs_machine.specs.World.{World, linked}
-use Rattle.fibs_history.proofs.Moving.{has_moved_on}
+use Rattle.fibs_history.proofs.Moving.{has_moved_on, moved_quiet}
 use Rattle.fibs_history.proofs.Lists.{to_list, same_number, other_number, map_no_more}
 use Rattle.fibs_history.proofs.Past.{spent_quiet}
-use Rattle.fibs_history.proofs.Moving.{moved_quiet}
 use Rattle.fibs_machine.proofs.wires.Ways.{OnWay}
 use Rattle.fibs_machine.proofs.wires.Boards.{Whole, waiting, whole_none}
 use Rattle.fibs_history.specs.Allows.{allows}

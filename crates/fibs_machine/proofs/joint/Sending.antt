@@ -4,7 +4,7 @@ use Rattle.std.proofs.Common.{nat_eq, flat_map, refl, sym, ◌∙◌, zero, suc,
 use Rattle.std.proofs.Common.{append_assoc, true≢false, arith, if◌then◌else◌}
 use Rattle.std.proofs.lemmas.Bool.Decides.{eqb_tells}
 use Rattle.std.proofs.lemmas.Bool.{eqb-true}
-use Rattle.fibs_boards.specs.Board.{BoardFields as Board}
+use Rattle.fibs_boards.specs.Board.{BoardFields as Board, spelling}
 use Rattle.fibs_history.specs.Log.{Entry}
 use Rattle.fibs_history.specs.Words.{Ask, is_empty, last, open_from, open_now, shown, sent, took}
 use Rattle.fibs_lines.specs.Lines.{lines_of}
@@ -13,15 +13,13 @@ use Rattle.fibs_machine.specs.Server.{user_decides}
 use Rattle.fibs_machine.specs.World.{World, noted, linked, asks, sends, is_talking}
 use Rattle.fibs_machine.proofs.Lawful.{Lawful, AllQuiet}
 use Rattle.fibs_history.specs.Machine.{on_wire}
-use Rattle.fibs_history.proofs.Lists.{same_number, and_left, and_right}
+use Rattle.fibs_history.proofs.Lists.{same_number, and_left, and_right, to_list}
 use Rattle.fibs_history.proofs.Past.{open_append}
 use Rattle.fibs_machine.proofs.wires.Ways.{OnWay, way_more}
 use Rattle.fibs_machine.proofs.wires.Boards.{waiting, boards, boards_more, whole_more, printed}
 use Rattle.fibs_machine.proofs.joint.Joint.{Logged, log_of, AllAre, Calm, Live, Held, Joint, current, current_with}
-use Rattle.fibs_history.proofs.Lists.{to_list}
 use Rattle.fibs_machine.proofs.joint.Joint.{at_other, same_log, joint_current, joint_rewired, joint_rewired_ahead}
 use Rattle.fibs_machine.proofs.joint.Joint.{ahead_with, joint_same}
-use Rattle.fibs_boards.specs.Board.{spelling}
 use Rattle.fibs_position.specs.GoodBoard.{good as is_good}
 
 -- entries that are none of Shown, Sent and Took, and leave open what is open

@@ -11,8 +11,7 @@ use Rattle.fibs_history.specs.Log as L
 use Rattle.fibs_history.specs.Machine.{on_wire}
 use Rattle.fibs_history.specs.Words.{Ask, one_if, is_empty}
 use Rattle.fibs_machine.specs.Acts.{Act, Shows, Says, Serves, sending, acts_of, acts_at_line, acts_on, acts_from}
-use Rattle.fibs_machine.specs.Events.{Event, Serve}
-use Rattle.fibs_machine.specs.Events.{Own, Repeat, Text}
+use Rattle.fibs_machine.specs.Events.{Event, Serve, Own, Repeat, Text}
 use Rattle.fibs_machine.specs.Joint.{served_by, served_at, decisions_of}
 use Rattle.fibs_machine.specs.Joint as S
 use Rattle.fibs_machine.specs.Runs.{after_all}

@@ -14,8 +14,7 @@ use Rattle.fibs_history.specs.Words.{Ask, is_empty, one_if, open_now, sent, took
 use Rattle.fibs_machine.specs.Acts.{Act, Shows, Says, Serves, put_by, sending}
 use Rattle.fibs_machine.specs.Acts.{acts_of, acts_at_line, acts_on, acts_from}
 use Rattle.fibs_machine.specs.declared.refusal.WorldRefusal.TheVariants.{AlreadyOpen, NotOpen}
-use Rattle.fibs_machine.specs.Events.{Event, Open, Deliver, Lose, Serve}
-use Rattle.fibs_machine.specs.Events.{Own, Repeat, Text}
+use Rattle.fibs_machine.specs.Events.{Event, Open, Deliver, Lose, Serve, Own, Repeat, Text}
 use Rattle.fibs_machine.specs.Headline.{NoneUndone}
 use Rattle.fibs_machine.specs.Joint.{Carried, Steady, served_at, decisions_of, at_most_one, Left, LastUnserved}
 use Rattle.fibs_machine.specs.Joint as S
@@ -29,14 +28,13 @@ use Rattle.fibs_machine.proofs.Answering.{answered_at as answered}
 use Rattle.fibs_machine.proofs.ClientActs.{does, does_hands, given, there_both}
 use Rattle.fibs_machine.proofs.Lawful.{Lawful, IsQuiet}
 use Rattle.fibs_machine.proofs.Final.{kept, told_start}
-use Rattle.fibs_history.proofs.Lists.{other_number}
+use Rattle.fibs_history.proofs.Lists.{other_number, to_list}
 use Rattle.fibs_history.proofs.Past.{open_append}
 use Rattle.fibs_machine.proofs.joint.Acting.{Kept, only, only_none, kept_is, kept_quiet, kept_does, kept_sends}
 use Rattle.fibs_machine.proofs.joint.Acting.{kept_serves, kept_login}
 use Rattle.fibs_machine.proofs.joint.Carrying.{carried_is, carried_delivered, carried_lost, carried_none}
 use Rattle.fibs_machine.proofs.joint.EachEvent.{served, over_events, joint_start, not_refused, is_open}
 use Rattle.fibs_machine.proofs.joint.Joint.{Joint, current, linked_each, linked_keeps}
-use Rattle.fibs_history.proofs.Lists.{to_list}
 use Rattle.fibs_machine.proofs.joint.Sending.{same_test}
 use Rattle.fibs_machine.proofs.joint.Left.{left_on}
 use Rattle.fibs_machine.proofs.joint.Serving.{serves_all}
@@ -237,15 +235,18 @@ last_unserved : (w : World) (c : ℕ) (acts : List Act) → NoneUndone w.log →
     → flat_map served_at acts ≡ decisions_of (S.served c w.log) → LastUnserved c acts w
 last_unserved w c acts none j serves = go (eqb_tells c 0) (eqb_tells c w.logged_in)
   where
-    go : ((nat_eq c 0 ≡ true) × (c ≡ 0)) ⊎ ((nat_eq c 0 ≡ false) × (c ≡ 0 → ⊥))
-        → ((nat_eq c w.logged_in ≡ true) × (c ≡ w.logged_in)) ⊎ ((nat_eq c w.logged_in ≡ false) × (c ≡ w.logged_in → ⊥))
-        → LastUnserved c acts w
-    go (inl z) q = let z1 = z.1 in record {
+    settled : (0 < c → w.logged_in ≤ c → ⊥) → LastUnserved c acts w
+    settled older = record {
       unserved = (j.each c).settled.p;
       all = all_but_last w c (j.each c).settled.p none (j.each c).settled.owed;
       serves = serves;
-      left = λ some low. absurd (omega arith);
+      left = λ some low. absurd (older some low);
     }
+
+    go : ((nat_eq c 0 ≡ true) × (c ≡ 0)) ⊎ ((nat_eq c 0 ≡ false) × (c ≡ 0 → ⊥))
+        → ((nat_eq c w.logged_in ≡ true) × (c ≡ w.logged_in)) ⊎ ((nat_eq c w.logged_in ≡ false) × (c ≡ w.logged_in → ⊥))
+        → LastUnserved c acts w
+    go (inl z) q = let z1 = z.1 in settled (λ some low. omega arith)
     go (inr n) (inl e) =
         let e1 = e.1 in
         let n1 = n.1 in
@@ -258,12 +259,7 @@ last_unserved w c acts none j serves = go (eqb_tells c 0) (eqb_tells c w.logged_
           left = λ some low. subst (λ d. Left d cur.p w) (sym e1) (left_on w w.logged_in cur.p cur.way cur.held);
         }
     go (inr n) (inr m) = elim (cases_lt c w.logged_in) [
-      | inl lt ↦ record {
-        unserved = (j.each c).settled.p;
-        all = all_but_last w c (j.each c).settled.p none (j.each c).settled.owed;
-        serves = serves;
-        left = λ some low. absurd (omega arith);
-      }
+      | inl lt ↦ settled (λ some low. omega arith)
       | inr le ↦
           let m1 = m.1 in
           let a = (j.each c).ahead (omega arith) in

@@ -4,11 +4,9 @@ use Rattle.std.proofs.Common.{None, nat_eq, flat_map, refl, sym, ◌∙◌, ap, 
 use Rattle.std.proofs.Common.{true≢false, arith}
 use Rattle.std.proofs.lemmas.Bool.Decides.{eqb_tells}
 use Rattle.std.proofs.lemmas.Bool.{eqb-true, le-ltb}
-use Rattle.fibs_boards.specs.Board.{BoardFields as Board}
-use Rattle.fibs_history.specs.Log.{Entry}
-use Rattle.fibs_history.specs.Log.{Opened, LoggedIn, Took, Lost}
-use Rattle.fibs_history.specs.Words.{Ask, is_empty, last, each, open_now, shown, sent, took, sent_by, took_by}
-use Rattle.fibs_history.specs.Words.{is_spent}
+use Rattle.fibs_boards.specs.Board.{BoardFields as Board, spelling}
+use Rattle.fibs_history.specs.Log.{Entry, Opened, LoggedIn, Took, Lost}
+use Rattle.fibs_history.specs.Words.{Ask, is_empty, last, each, open_now, shown, sent, took, sent_by, took_by, is_spent}
 use Rattle.fibs_machine.specs.Wires.{next_line, Link, more_asked, taken, cut_off}
 use Rattle.fibs_position.specs.BoardEffect.{is_die}
 use Rattle.fibs_machine.specs.Server.{Stale, LoggedIn as LoggedInNow, decision_in, command}
@@ -18,17 +16,14 @@ use Rattle.fibs_machine.proofs.Lawful.{Lawful, IsQuiet}
 use Rattle.fibs_history.specs.Machine.{on_wire, gained}
 use Rattle.std.specs.Prelude.{if◌then◌else◌}
 use Rattle.fibs_history.proofs.Lists.{same_number, other_number, and_both, one_of_false, one_of_true, map_no_more}
-use Rattle.fibs_history.proofs.Lists.{map_more}
+use Rattle.fibs_history.proofs.Lists.{map_more, to_list}
 use Rattle.fibs_history.proofs.Past.{open_append, spent_quiet}
 use Rattle.fibs_machine.proofs.wires.Ways.{OnWay, way_none, way_more, way_lost, way_lose, way_serve}
-use Rattle.fibs_machine.proofs.wires.Boards.{Whole, waiting, boards, gained_none, boards_more, whole_more}
-use Rattle.fibs_machine.proofs.wires.Boards.{printed}
+use Rattle.fibs_machine.proofs.wires.Boards.{Whole, waiting, boards, gained_none, boards_more, whole_more, printed}
 use Rattle.fibs_machine.proofs.joint.Joint.{Logged, log_of, AllAre, Calm, Live, Held, Current, Ahead, At, Joint}
 use Rattle.fibs_machine.proofs.joint.Joint.{current, current_with, same_log, linked_same, linked_other, at_by}
 use Rattle.fibs_machine.proofs.joint.Joint.{ahead_with, at_ahead, at_current, each_of, joint_current, joint_rewired}
-use Rattle.fibs_history.proofs.Lists.{to_list}
 use Rattle.fibs_machine.proofs.joint.Sending.{joint_board, same_test, if_fact, not_left, with_line}
-use Rattle.fibs_boards.specs.Board.{spelling}
 use Rattle.fibs_history.specs.Allows.{allows}
 use Rattle.fibs_position.specs.GamePart.{same_game}
 use Rattle.fibs_position.specs.GoodBoard.{good as is_good}

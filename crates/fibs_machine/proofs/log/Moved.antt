@@ -8,8 +8,7 @@ use Rattle.fibs_history.specs.Log.{Entry, Shown, Sent}
 use Rattle.fibs_history.specs.Words.{Ask, is_empty, each, shown_by, sent_by, shown, sent, took}
 use Rattle.fibs_machine.specs.Headline.{IsPrefixOf, AllMovedOn}
 use Rattle.fibs_machine.proofs.Lawful.{Lawful}
-use Rattle.fibs_history.proofs.Lists.{to_list}
-use Rattle.fibs_history.proofs.Lists.{same_number, one_of_true, map_more, empty_none}
+use Rattle.fibs_history.proofs.Lists.{to_list, same_number, one_of_true, map_more, empty_none}
 use Rattle.fibs_history.proofs.Moving.{has_moved_on}
 
 -- a list with an element in it

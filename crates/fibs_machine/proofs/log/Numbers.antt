@@ -1,6 +1,5 @@
 -- No connection's number is above the number of entries.
-use Rattle.std.proofs.Common.{◌≡◌, ℕ, ◌+◌, ◌≤◌, List, [], ◌∷◌, ◌++◌, length}
-use Rattle.std.proofs.Common.{flat_map, arith, length-append}
+use Rattle.std.proofs.Common.{◌≡◌, ℕ, ◌+◌, ◌≤◌, List, [], ◌∷◌, ◌++◌, length, flat_map, arith, length-append}
 use Rattle.fibs_history.specs.Log as L
 use Rattle.fibs_history.specs.Log.{Entry}
 use Rattle.fibs_history.specs.Words.{opened_by, connections}

@@ -9,11 +9,9 @@ use Rattle.std.proofs.lemmas.Bool.{cases_lt}
 use Rattle.fibs_boards.specs.Board.{BoardFields as Board}
 use Rattle.fibs_position.specs.DecisionValue.{DecisionValue as Decision, roll}
 use Rattle.fibs_history.specs.declared.refusal.Refusal.{Refusal}
-use Rattle.fibs_history.specs.Log.{Entry}
-use Rattle.fibs_history.specs.Log.{Shown, Clicked, Sent, Took, Undone}
+use Rattle.fibs_history.specs.Log.{Entry, Shown, Clicked, Sent, Took, Undone}
 use Rattle.fibs_history.specs.Orders.{is_due}
-use Rattle.fibs_history.specs.Words.{Ask, one_if, last, shown, shown_by, open_now, sent, took, sent_by, took_by}
-use Rattle.fibs_history.specs.Words.{answer}
+use Rattle.fibs_history.specs.Words.{Ask, one_if, last, shown, shown_by, open_now, sent, took, sent_by, took_by, answer}
 use Rattle.fibs_machine.specs.Headline.{NoneUndone, InOrder, places, is_sent, is_took}
 use Rattle.fibs_machine.proofs.log.Called.{roll_if, Called, called_append}
 use Rattle.fibs_machine.proofs.log.Fitting.{AllFit, fit_append}

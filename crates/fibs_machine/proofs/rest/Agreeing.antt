@@ -25,8 +25,7 @@ use Rattle.fibs_machine.specs.Runs.{AllAccepted, after_all}
 use Rattle.fibs_machine.specs.Server.{Served}
 use Rattle.fibs_machine.specs.Server as V
 use Rattle.fibs_machine.specs.Wires.{Link, delivered, taken, cut_off, more_asked, next_line}
-use Rattle.fibs_machine.specs.World.{World, start, after, noted, linked, is_talking, hears}
-use Rattle.fibs_machine.specs.World.{does_served, serves}
+use Rattle.fibs_machine.specs.World.{World, start, after, noted, linked, is_talking, does_served, serves}
 use Rattle.fibs_machine.proofs.Answering.{answered_at as answered}
 use Rattle.fibs_machine.proofs.Lawful.{Lawful, IsQuiet}
 use Rattle.fibs_machine.proofs.ClientActs.{Does, does, given, there_none}

@@ -1,7 +1,6 @@
 -- No decision leads to a board in whose phase the player is to roll: after it he could roll and resign, which would be
 -- three decisions in a row.
-use Rattle.std.proofs.Common.{◌≡◌, ℕ, false, List, [], ◌∷◌, refl, sym, ◌∙◌, inl, inr, lit≤, arith}
-use Rattle.std.proofs.Common.{Some}
+use Rattle.std.proofs.Common.{◌≡◌, ℕ, false, List, [], ◌∷◌, refl, sym, ◌∙◌, inl, inr, lit≤, arith, Some}
 use Rattle.std.specs.Prelude.{ℤ, pos, slice_index}
 use Rattle.fibs_boards.specs.Board.{BoardFields as Board, field_of}
 use Rattle.fibs_boards.specs.FieldRanges.{FieldRanges}

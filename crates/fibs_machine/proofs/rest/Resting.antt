@@ -11,7 +11,6 @@ use Rattle.fibs_boards.specs.Board.{BoardFields as Board, spelling}
 use Rattle.fibs_position.specs.BoardEffect.{IsDie, is_die}
 use Rattle.fibs_position.specs.GoodBoard.{good as is_good}
 use Rattle.fibs_history.specs.Machine.{gained, on_wire, wire_of}
-use Rattle.fibs_history.specs.Log.{Took, Undone}
 use Rattle.fibs_history.specs.Words.{is_empty, open_now}
 use Rattle.fibs_machine.specs.CanRest.{CanRest, LeadsToRest, OnlyWires, WithDice, EachNext, next_to_rest, lines_served}
 use Rattle.fibs_machine.specs.Events.{Event, Deliver, Serve}
@@ -25,8 +24,7 @@ use Rattle.fibs_machine.specs.Runs.{AllAccepted, MayBe, after_all, world_after}
 use Rattle.fibs_machine.specs.Server.{Served}
 use Rattle.fibs_machine.specs.Server as V
 use Rattle.fibs_machine.specs.Wires.{Link, delivered, taken, more_asked, more_coming, next_line}
-use Rattle.fibs_machine.specs.World.{World, start, after, linked, does_served, hears_all}
-use Rattle.fibs_machine.specs.World.{serves}
+use Rattle.fibs_machine.specs.World.{World, start, after, linked, does_served, hears_all, serves}
 use Rattle.fibs_machine.proofs.Answering.{answered_at as answered}
 use Rattle.fibs_machine.proofs.Lawful.{Lawful, IsQuiet}
 use Rattle.fibs_machine.proofs.rest.BeforeRolls.{Rules, effect_no_roll}
@@ -43,9 +41,8 @@ use Rattle.fibs_machine.proofs.joint.EachEvent.{joint_after, joint_start, served
 use Rattle.fibs_machine.proofs.joint.Joint.{Joint, linked_same, linked_keeps}
 use Rattle.fibs_machine.proofs.joint.Left.{way_texts}
 use Rattle.fibs_machine.proofs.rest.Measure.{returns_in, returns_none, returns_most, returns_less, returns_lines, due}
-use Rattle.fibs_machine.proofs.rest.Measure.{due_most, Lessens}
-use Rattle.fibs_machine.proofs.rest.Measure.{NoRoll, lessens_served, Lighter, lighter_same, lighter_all, due_relinked}
-use Rattle.fibs_machine.proofs.rest.Measure.{is_message, has_message, message_append}
+use Rattle.fibs_machine.proofs.rest.Measure.{due_most, Lessens, NoRoll, lessens_served, Lighter, lighter_same}
+use Rattle.fibs_machine.proofs.rest.Measure.{lighter_all, due_relinked, is_message, has_message, message_append}
 use Rattle.fibs_machine.proofs.joint.Sending.{not_older, open_way, same_test, which}
 
 -- one, if any byte is on its way

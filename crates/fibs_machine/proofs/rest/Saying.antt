@@ -1,7 +1,6 @@
 -- What the client sent on the open connection, while the server has answered nothing there: its login.
-use Rattle.std.proofs.Common.{◌≡◌, ◌⊎◌, ℕ, ◌+◌, ◌<◌, ◌≤◌, true, false, List, [], ◌∷◌, ◌++◌, Option, Some}
-use Rattle.std.proofs.Common.{None, nat_eq, drop, length, refl, sym, ◌∙◌, ap, subst, inl, inr}
-use Rattle.std.proofs.Common.{append_assoc, arith, if◌then◌else◌}
+use Rattle.std.proofs.Common.{◌≡◌, ◌⊎◌, ℕ, ◌+◌, ◌<◌, ◌≤◌, true, false, List, [], ◌∷◌, ◌++◌, Option, Some, None, nat_eq}
+use Rattle.std.proofs.Common.{drop, length, refl, sym, ◌∙◌, ap, subst, inl, inr, append_assoc, arith, if◌then◌else◌}
 use Rattle.std.proofs.Math.Seq.{drop-append_seam}
 use Rattle.std.proofs.lemmas.Bool.Decides.{eqb_tells}
 use Rattle.std.proofs.lemmas.List.Concat.{flat_map-append}
@@ -23,8 +22,7 @@ use Rattle.fibs_machine.specs.Runs.{AllAccepted, after_all}
 use Rattle.fibs_machine.specs.Server.{Served, obeyed, carried, decision_in, effect}
 use Rattle.fibs_machine.specs.Server as V
 use Rattle.fibs_machine.specs.Wires.{Link, delivered, taken, more_asked, next_line}
-use Rattle.fibs_machine.specs.World.{World, start, after, linked, sends, is_talking}
-use Rattle.fibs_machine.specs.World.{does_served, serves}
+use Rattle.fibs_machine.specs.World.{World, start, after, linked, sends, is_talking, does_served, serves}
 use Rattle.fibs_machine.proofs.Answering.{answered_at as answered}
 use Rattle.fibs_machine.proofs.Lawful.{Lawful, IsQuiet}
 use Rattle.fibs_machine.proofs.Final.{kept, told_start}

@@ -3,7 +3,7 @@ use Rattle.std.proofs.Common.{◌≡◌, ℕ, true, false, List, [], ◌∷◌, 
 use Rattle.std.proofs.Common.{ap, append-nil, append_assoc, true≢false, take-append-drop}
 use Rattle.std.proofs.Math.Seq.{drop-append_seam}
 use Rattle.std.proofs.lemmas.List.Concat.{flat_map-append}
-use Rattle.fibs_boards.specs.Board.{BoardFields as Board}
+use Rattle.fibs_boards.specs.Board.{BoardFields as Board, spelling}
 use Rattle.fibs_history.specs.Words.{one_if}
 use Rattle.fibs_messages.specs.Line.{ReadingValue, numbered_line, board_line, text_line, malformed_line}
 use Rattle.fibs_lines.specs.Lines.{ReadLine as Line, lines_of}
@@ -12,7 +12,6 @@ use Rattle.fibs_machine.specs.Refusals.{is_board_text, reads_as_board}
 use Rattle.fibs_machine.proofs.Lawful.{Lawful}
 use Rattle.fibs_history.specs.Machine.{on_wire, gained}
 use Rattle.fibs_history.specs.Hearing.{line_reading}
-use Rattle.fibs_boards.specs.Board.{spelling}
 use Rattle.fibs_position.specs.GoodBoard.{good as is_good}
 
 -- the good board that a line says
