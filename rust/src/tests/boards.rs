@@ -1,5 +1,8 @@
 //! Boards for tests.
 
+use crate::fibs_messages::split;
+use arrayvec::ArrayVec;
+
 /// The user, who goes down, rolls or doubles.
 pub(crate) const TO_ROLL: &[u8] =
     b"board:You:bob:3:0:1:0:-2:0:0:0:0:5:0:3:0:0:0:-5:5:0:0:0:-3:0:-5:0:0:0:0:2:0:1:0:0:0:0:1:1:1:0:1:-1:0:25:0:0:0:0:0:0:0:0";
@@ -83,3 +86,21 @@ pub(crate) const FOUR_ONES: &[u8] =
 /// He has rolled 6 and 2, on a board as a server sent it.
 pub(crate) const AS_SENT: &[u8] =
     b"board:You:someplayer:3:0:1:0:-2:0:0:0:0:5:0:3:0:0:0:-5:5:0:0:0:-3:0:-5:0:0:0:0:2:0:1:6:2:0:0:1:1:1:0:1:-1:0:25:0:0:0:0:2:0:0:0";
+
+/// How many fields a board has.
+pub(crate) const FIELDS: usize = 53;
+
+/// The line as a server sent it, with another text in one field.
+pub(crate) fn line_with(field: usize, text: &[u8]) -> ArrayVec<u8, 512> {
+    let mut line = ArrayVec::new();
+    let mut rest = AS_SENT;
+    for number in 1..FIELDS + 1 {
+        let (piece, after) = split(rest, b':');
+        let _room = line.try_extend_from_slice(if number == field { text } else { piece });
+        if number < FIELDS {
+            let _room = line.try_push(b':');
+        }
+        rest = after.unwrap_or(b"");
+    }
+    line
+}

@@ -1,8 +1,9 @@
 //! Worked rows of a client, and what neither the built program nor the library for C shows of sessions and clients.
 //! More histories, worked out by hand, are told to a client in Python: tests/worlds.
 
+use crate::fibs_boards::Board;
 use crate::fibs_lines::Line;
-use crate::fibs_messages::{Board, Reading};
+use crate::fibs_messages::Reading;
 use crate::fibs_position::Decision;
 use crate::fibs_session::{
     Client, Input, Login, Outstanding, Plain, PlainFault, PlainRefusal, Refusal, Session, run_client,
@@ -10,7 +11,7 @@ use crate::fibs_session::{
 use crate::rattle::alloc::AllocError;
 use crate::rattle::may::*;
 use crate::tests::boards::{MUST_ROLL, TO_MOVE, TO_ROLL};
-use crate::tests::lines::{INFO, INFO_AUTOMOVE, WELCOME};
+use crate::tests::server_lines::{INFO, INFO_AUTOMOVE, WELCOME};
 
 /// The login of the tests.
 fn login() -> Login {

@@ -1,62 +1,10 @@
 //! What of boards, names and numbers the library for C does not show. Worked lines are read in tests/rows.
 
-use crate::fibs_copied_lines::check::check_board;
+use crate::fibs_boards::Board;
 use crate::fibs_messages::laws::{print_reads_back, prints_tell_boards};
-use crate::fibs_messages::{Board, Fault, FieldFault, Name, read_decimal, split};
+use crate::fibs_messages::{Fault, FieldFault, Name, read_decimal, split};
 use crate::rattle::may::*;
-use crate::tests::boards::AS_SENT;
-use arrayvec::ArrayVec;
-
-/// How many fields it has.
-const FIELDS: usize = 53;
-
-/// That line with another text in one field.
-fn line_with(field: usize, text: &[u8]) -> ArrayVec<u8, 512> {
-    let mut line = ArrayVec::new();
-    let mut rest = AS_SENT;
-    for number in 1..FIELDS + 1 {
-        let (piece, after) = split(rest, b':');
-        let _room = line.try_extend_from_slice(if number == field { text } else { piece });
-        if number < FIELDS {
-            let _room = line.try_push(b':');
-        }
-        rest = after.unwrap_or(b"");
-    }
-    line
-}
-
-/// Whether the line with this end says a board, and is the real line but for spaces at its end.
-fn is_copied_with(end: &[u8]) -> bool {
-    match check_board(line_with(FIELDS, end).as_slice()) {
-        Ok(copied) => copied == AS_SENT,
-        Err(_) => false,
-    }
-}
-
-/// Whether the line with this text in a field says no board, whoever reads it, since this field is wrong.
-fn is_wrong_with(field: usize, text: &[u8]) -> bool {
-    let line = line_with(field, text);
-    match (check_board(line.as_slice()), Board::read(line.as_slice())) {
-        (Err(wrong), Err(found)) => wrong == found && wrong.field == field,
-        _ => false,
-    }
-}
-
-/// Texts for the last field, and whether the line is copied then.
-static ENDS: [(&[u8], bool); 3] = [(b"0", true), (b"0   ", true), (b"1", false)];
-
-/// Fields, and texts that are wrong there.
-static WRONG: [(usize, &[u8]); 4] = [(1, b"boar"), (2, b""), (7, b"-0"), (52, b"0 ")];
-
-#[test]
-fn a_line_is_copied_without_its_spaces() {
-    for (end, copied) in &ENDS {
-        assert!(is_copied_with(end) == *copied, "{end:?} at its end");
-    }
-    for (field, text) in &WRONG {
-        assert!(is_wrong_with(*field, text), "{field}");
-    }
-}
+use crate::tests::boards::{AS_SENT, line_with};
 
 /// Fields, and numbers that a board can't have there.
 static REFUSED: [(usize, i32); 8] = [(3, 0), (54, 0), (0, 0), (42, 0), (44, 24), (7, 16), (7, -16), (38, 0)];

@@ -1,13 +1,12 @@
 //! Messages as they are printed, and words and tails by themselves. Worked lines are read in tests/rows.
 
-use crate::fibs_copied_lines::canonical_line;
 use crate::fibs_messages::laws::{canonical_lines_read_back, messages_are_well_formed};
 use crate::fibs_messages::{Message, Reading, Tail, Word, message_number, print_message, read};
 use crate::rattle::alloc::AllocError;
 use crate::rattle::may::*;
 
 /// The line of a message, and what is printed for it if that is another line.
-type Row = (&'static [u8], &'static [u8]);
+pub(crate) type Row = (&'static [u8], &'static [u8]);
 
 const WELCOME: Row = (b"1 myself 1041253132 192.168.1.308", b"");
 
@@ -53,50 +52,9 @@ static PRINTED: [Row; 30] = [
     (b"17 ", b"17"),
 ];
 
-/// Whether a line is copied as this text, or is not copied.
-fn is_copied_as(line: &[u8], canonical: Option<&[u8]>) -> bool {
-    match (canonical_line(line), canonical) {
-        (Some(copied), Some(wanted)) => copied == wanted,
-        (None, None) => true,
-        _ => false,
-    }
-}
-
-/// All of these lines.
-fn printed() -> &'static [Row; 30] {
+/// All of these lines: the first 19 are of the CLIP specification, and are printed as they came.
+pub(crate) fn printed() -> &'static [Row; 30] {
     &PRINTED
-}
-
-#[test]
-fn lines_of_the_specification_are_copied() {
-    for (line, _) in &printed()[..19] {
-        assert!(is_copied_as(line, Some(line)), "{line:?}");
-    }
-}
-
-/// Lines that are messages, and what is copied of them, if anything.
-static COPIED: [(&[u8], Option<&[u8]>); 14] = [
-    (b"6  ", Some(b"6")),
-    (b"1 bob 5 host  ", Some(b"1 bob 5 host")),
-    (b"12 bob  x ", Some(b"12 bob  x ")),
-    (b"9 bob 0 x", Some(b"9 bob 0 x")),
-    (b"5 a - - 1 0 0.07 9999999999999999999 0 0 h - b ", Some(b"5 a - - 1 0 0.07 9999999999999999999 0 0 h - b")),
-    (b"5 a - - 1 0 1500.5 0 3 0 h - b", None),
-    (b"5 a - - 1 0 1500 0 3 0 h - b", None),
-    (b"5 a - - 1 0 01.50 0 3 0 h - b", None),
-    (b"5 a - - 1 0 1.505 0 3 0 h - b", None),
-    (b"5 a - - 1 0 1.50 0 03 0 h - b", None),
-    (b"5 a - - 1  0 1.50 0 3 0 h - b", None),
-    (b"12 bob ", None),
-    (b"17 ", None),
-    (b"20 x", None),
-];
-
-#[test]
-fn other_spellings_are_not_copied() {
-    for (line, canonical) in &COPIED {
-        assert!(is_copied_as(line, *canonical), "{line:?}");
-    }
 }
 
 /// How many bytes a word has, and whether it is a dash, if the text is a word.

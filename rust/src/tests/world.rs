@@ -1,14 +1,14 @@
 //! A worked row of the world, and what no script can say of it: a text of more than one line, and how it goes on
 //! after a refused growth. More histories, worked out by hand, are told by the built program: tests/worlds.
 
-use crate::fibs_messages::Board;
+use crate::fibs_boards::Board;
 use crate::fibs_model::{Event, World, WorldRefusal};
 use crate::fibs_position::Decision;
 use crate::fibs_session::Login;
 use crate::rattle::alloc::AllocError;
 use crate::rattle::may::*;
 use crate::tests::boards::*;
-use crate::tests::lines::{INFO, INFO_NO_BOARDS, WELCOME};
+use crate::tests::server_lines::{INFO, INFO_NO_BOARDS, WELCOME};
 
 fn board(line: &[u8]) -> Option<Board> {
     Board::read(line).ok()

@@ -6,7 +6,7 @@ use crate::rattle::alloc::AllocError;
 use crate::rattle::cmp::Ordering;
 use crate::rattle::may::*;
 use crate::tests::boards::{AS_SENT, FOUR_ONES, ONE_STEP, TO_BEAR_OFF, TO_HIT, TO_MOVE_UP, TWO_ORDERS};
-use crate::tests::rows::position;
+use crate::tests::positions::position;
 
 /// Checkers by place: the player's, of which place 0 is off and 25 the bar, and the opponent's, of which place 0 is the
 /// bar.

@@ -1,6 +1,6 @@
 //! Boards of both colours and directions, told in words, which were written by hand.
 
-use crate::fibs_messages::Board;
+use crate::fibs_boards::Board;
 use crate::fibs_position::GameBoard;
 use crate::fibs_words::tell;
 use crate::rattle::io;
