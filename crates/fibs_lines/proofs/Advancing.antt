@@ -6,11 +6,11 @@ use Rattle.std.specs.Prelude.{◌||◌, nat_lt}
 use Rattle.std.proofs.Math.Seq.{take-add}
 use Rattle.std.proofs.lemmas.List.{length-take, append-nil, take_all, take_more, take_rest}
 use Rattle.fibs_lines.specs.Lines.{plain, kept_limit, rest_of, lines_of}
-use Rattle.fibs_lines.specs.Progress.{IsRun, Kept, KeptAfter, Advances}
+use Rattle.fibs_lines.specs.Progress.{IsRun, Kept, KeptAfter, Advances, data_of, telnet_after}
 use Rattle.fibs_lines.proofs.Parts.{has_end}
 use Rattle.fibs_lines.specs.declared.telnet.Telnet.{Telnet}
 use Rattle.fibs_lines.specs.declared.telnet.Telnet.TheVariants.{Data, Command, Negotiation}
-use Rattle.fibs_lines.proofs.Streams.{data_of, telnet_after, data_along, telnet_along, plain-append, telnet_of-append}
+use Rattle.fibs_lines.proofs.Streams.{data_along, telnet_along, plain-append, telnet_of-append}
 use Rattle.fibs_lines.proofs.Streams.{lines_of_more, rest_of_more}
 use Rattle.fibs_lines.proofs.RunLemmas.{has_end_run, data_along_run, telnet_along_run}
 
@@ -122,17 +122,24 @@ unended_nil : has_end [] ≡ false
 unfolding has_end
 unended_nil = refl
 
--- the byte 255 255
-pub Advances-escaped : (old new : Kept) (b : ℕ) → b ≡ 255 → old.telnet ≡ Command → new.telnet ≡ Data
-    → new.front ≡ old.front ++ take (kept_limit + 1 - length old.front) (b ∷ [])
+-- inside of a command only the byte 255 is data
+data_within : (k : Telnet) (b x : ℕ) → k ≢ Data → data_of k b ≡ x ∷ [] → x ≡ 255
+data_within Data b x begun gives = absurd (begun refl)
+data_within Command b x begun gives = grind arith
+data_within Negotiation b x begun gives = grind arith
+
+-- a byte of a command that gives data
+pub Advances-escaped : (old new : Kept) (b x : ℕ) → old.telnet ≢ Data → data_of old.telnet b ≡ x ∷ []
+    → new.telnet ≡ telnet_after old.telnet b
+    → new.front ≡ old.front ++ take (kept_limit + 1 - length old.front) (x ∷ [])
     → new.over ≡ (old.over || nat_lt (kept_limit + 1 - length old.front) 1) → Advances old new (b ∷ [])
-Advances-escaped old new b at was is front over =
-    let gives : data_along old.telnet (b ∷ []) ≡ b ∷ [] = rw (was, at) refl in
+Advances-escaped old new b x begun gives is front over =
+    let only : data_along old.telnet (b ∷ []) ≡ x ∷ [] = rw gives refl in
     Advances-grown old new (b ∷ []) (record {
-      telnet = rw (was, at) is;
-      unended = rw (gives, at) unended_255;
-      front = rw gives front;
-      over = rw gives over;
+      telnet = is;
+      unended = rw (only, data_within old.telnet b x begun gives) unended_255;
+      front = rw only front;
+      over = rw only over;
     })
 
 -- a byte that gives no data
@@ -159,22 +166,6 @@ pub Advances-opened : (old new : Kept) (b : ℕ) → b ≡ 255 → old.telnet �
     → new.front ≡ old.front → new.over ≡ old.over → Advances old new (b ∷ [])
 Advances-opened old new b at was is front over =
     Advances-silent old new b (rw (was, at) refl) (is ∙ rw (was, at) refl) front over
-
--- a byte after a command's first two
-pub Advances-closed : (old new : Kept) (b : ℕ) → old.telnet ≢ Data → old.telnet ≢ Command → new.telnet ≡ Data
-    → new.front ≡ old.front → new.over ≡ old.over → Advances old new (b ∷ [])
-Advances-closed old new b begun more is front over =
-    Advances-silent old new b (gives old.telnet begun more) (is ∙ after old.telnet begun more) front over
-  where
-    gives : (k : Telnet) → k ≢ Data → k ≢ Command → data_of k b ≡ []
-    gives Data p q = absurd (p refl)
-    gives Command p q = absurd (q refl)
-    gives Negotiation p q = refl
-
-    after : (k : Telnet) → k ≢ Data → k ≢ Command → Data ≡ telnet_after k b
-    after Data p q = absurd (p refl)
-    after Command p q = absurd (q refl)
-    after Negotiation p q = refl
 
 -- a part of a piece, and more of it
 pub Advances-taken : (u v w : Kept) (piece : List ℕ) (at more : ℕ) → Advances u v (take at piece)

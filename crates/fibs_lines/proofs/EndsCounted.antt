@@ -5,12 +5,13 @@ use Rattle.std.proofs.lemmas.List.{length-map}
 use Rattle.std.proofs.lemmas.List.Sums.{sum_by-append}
 use Rattle.std.proofs.lemmas.List.Splits.{length-slice_split}
 use Rattle.fibs_lines.specs.Lines.{plain, is_line_end, line_of, lines_of}
+use Rattle.fibs_lines.specs.Progress.{data_of, telnet_after}
 use Rattle.fibs_lines.specs.Standing.{telnet_of}
 use Rattle.fibs_lines.specs.StreamLaws.{LinesAreAtMostTheLineEnds}
 use Rattle.fibs_lines.specs.declared.telnet.Telnet.{Telnet}
 use Rattle.fibs_lines.specs.declared.telnet.Telnet.TheVariants.{Data, Command, Negotiation}
 use Rattle.fibs_lines.proofs.Parts.{finished, after_end, slice_split-is, lines_of-is}
-use Rattle.fibs_lines.proofs.Streams.{telnet_after, data_of, data_along, plain-append}
+use Rattle.fibs_lines.proofs.Streams.{data_along, plain-append}
 
 -- how many line ends there are
 abbrev pub ends : List ℕ → ℕ

@@ -4,23 +4,12 @@ use Rattle.std.proofs.Common.{drop, map, refl, sym, ap, ◌∙◌, arith, append
 use Rattle.std.proofs.Math.Seq.{take-add}
 use Rattle.std.proofs.lemmas.List.{append-nil, nil_from_length, length-append, map-append}
 use Rattle.fibs_lines.specs.Lines.{ReadLine, takes_option, plain, line_of, lines_of, rest_of}
+use Rattle.fibs_lines.specs.Progress.{data_of, telnet_after}
 use Rattle.fibs_lines.specs.Standing.{telnet_of}
 use Rattle.fibs_lines.proofs.Parts.{onto_each_first, finished, has_end, after_end, after_end_none, finished_none}
 use Rattle.fibs_lines.proofs.Parts.{finished_some, lines_of-is, rest_of-is}
 use Rattle.fibs_lines.specs.declared.telnet.Telnet.{Telnet}
 use Rattle.fibs_lines.specs.declared.telnet.Telnet.TheVariants.{Data, Command, Negotiation}
-
--- how far a command has come after one more byte
-abbrev pub telnet_after : Telnet → ℕ → Telnet
-telnet_after Data b = cond (eqb b 255) Command Data
-telnet_after Command b = cond (eqb b 255) Data (cond (takes_option b) Negotiation Data)
-telnet_after Negotiation b = Data
-
--- the data that one more byte gives
-abbrev pub data_of : Telnet → ℕ → List ℕ
-data_of Data b = cond (eqb b 255) [] (b ∷ [])
-data_of Command b = cond (eqb b 255) (255 ∷ []) []
-data_of Negotiation b = []
 
 -- how far a command has come after more bytes
 abbrev pub telnet_along : Telnet → List ℕ → Telnet

@@ -1,12 +1,24 @@
 -- How the reading loop goes on. No public contract rests on this file.
 use Rattle.std.specs.Prelude.{◌≡◌, ℕ, ◌+◌, ◌<◌, ◌≤◌, Bool, true, false, ◌||◌, ◌==◌, nat_lt, List, [], ◌∷◌, ◌++◌, length}
-use Rattle.std.specs.Prelude.{take, slice_index, ◌⊎◌}
-use Rattle.fibs_lines.specs.Lines.{kept_limit, rest_of, lines_of}
+use Rattle.std.specs.Prelude.{take, slice_index, ◌⊎◌, if◌then◌else◌}
+use Rattle.fibs_lines.specs.Lines.{kept_limit, rest_of, lines_of, takes_option}
 use Rattle.fibs_lines.specs.Literal.{is_literal}
 use Rattle.fibs_lines.specs.Standing.{telnet_of}
 use Rattle.fibs_lines.specs.declared.telnet.Telnet.{Telnet}
-use Rattle.fibs_lines.specs.declared.telnet.Telnet.TheVariants.{Data}
+use Rattle.fibs_lines.specs.declared.telnet.Telnet.TheVariants.{Data, Command, Negotiation}
 use Rattle.fibs_lines.specs.declared.unfinished.Unfinished.{Unfinished}
+
+-- how far a command has come after one more byte
+abbrev pub telnet_after : Telnet → ℕ → Telnet
+telnet_after Data b = if b == 255 then Command else Data
+telnet_after Command b = if b == 255 then Data else if takes_option b then Negotiation else Data
+telnet_after Negotiation b = Data
+
+-- the data that one more byte gives
+abbrev pub data_of : Telnet → ℕ → List ℕ
+data_of Data b = if b == 255 then [] else b ∷ []
+data_of Command b = if b == 255 then 255 ∷ [] else []
+data_of Negotiation b = []
 
 -- what is kept of a stream: how much of a telnet command has come, the first bytes after the last line end, and whether
 -- there are more

@@ -183,13 +183,11 @@ impl Unfinished {
         requires { self.old.telnet ≢ Telnet.Data }
         ensures { Advances (kept self.old) (kept self.new) (byte ∷ []) }
     {
-        match self.telnet {
-            Telnet::Command if byte == 255 => {
-                self.keep(&[byte]);
-                self.telnet = Telnet::Data;
-            }
-            Telnet::Command if 251 <= byte && byte <= 254 => self.telnet = Telnet::Negotiation,
-            _ => self.telnet = Telnet::Data,
+        let (telnet, data) = self.telnet.after(byte);
+        self.telnet = telnet;
+        match data {
+            Some(byte) => self.keep(&[byte]),
+            None => {}
         }
     }
 
