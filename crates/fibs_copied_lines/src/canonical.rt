@@ -2,8 +2,8 @@
 
 ghost use Rattle.std.specs.Prelude.{◌≡◌, ◌≤◌, [], ◌∷◌, ◌++◌, length, take, true, IfSome, OnSome, Some, None};
 ghost use Rattle.fibs_fields.specs.Field.{a_flag, a_name, a_number, a_rating, a_tail, a_text, a_word};
-ghost use Rattle.fibs_fields.specs.Split.{seen};
-ghost use Rattle.fibs_messages.specs.Message.{IsNumber, MessageText, MessageValue, canonical, kinds_of};
+ghost use Rattle.fibs_fields.specs.Split.{before, seen};
+ghost use Rattle.fibs_messages.specs.Message.{IsNumber, MessageText, MessageValue, canonical, kinds_of, number_word};
 ghost use Rattle.fibs_copied_lines.specs.Standing.{AllStand, Begins, BeginsDecimal, Stands};
 ghost use Rattle.fibs_copied_lines.specs.Standing.{after_space, kind_seen, kinds_seen};
 
@@ -269,8 +269,35 @@ fn fields_stand(number: u8, fields: Option<&[u8]>) -> bool
 {
     match fields {
         Some(text) if number == 5 => who_info_stands(text).is_some(),
-        Some(text) if has_name_and_text(number) => name_and_text_stand(text).is_some(),
         _ => all_stand(kinds_of(number), fields),
+    }
+}
+
+/// What `canonical_line` answers of the line of a message with this number, whose fields are a name and a text.
+#[inline(always)]
+fn name_and_text_line(number: u8, line: &[u8]) -> Option<&[u8]>
+    requires number { Some number ≡ number_word (before 32 line.now) }
+    requires kinds { kinds_of number ≡ a_name ∷ a_text ∷ [] }
+    ensures { IfSome result (λ text. (m : MessageValue) × MessageText m line.now × (text.now ≡ canonical m)) }
+{
+    let kept = kept(number, line);
+    let fields = split(kept, b' ').1?;
+    name_and_text_stand(fields)?;
+    Some(kept)
+}
+
+/// What `canonical_line` answers of the line of any message with this number.
+#[inline(never)]
+fn message_line(number: u8, line: &[u8]) -> Option<&[u8]>
+    requires number { Some number ≡ number_word (before 32 line.now) }
+    requires is_number { IsNumber number }
+    ensures { IfSome result (λ text. (m : MessageValue) × MessageText m line.now × (text.now ≡ canonical m)) }
+{
+    let kept = kept(number, line);
+    if fields_stand(number, split(kept, b' ').1) {
+        Some(kept)
+    } else {
+        None
     }
 }
 
@@ -278,14 +305,14 @@ fn fields_stand(number: u8, fields: Option<&[u8]>) -> bool
 /// at its end, and is seen to be so at once: no message is made of it.
 ///
 /// None says nothing about the line.
+#[inline(always)]
 pub fn canonical_line(line: &[u8]) -> Option<&[u8]>
     ensures { IfSome result (λ text. (m : MessageValue) × MessageText m line.now × (text.now ≡ canonical m)) }
 {
     let number = number_of(line)?;
-    let kept = kept(number, line);
-    if fields_stand(number, split(kept, b' ').1) {
-        Some(kept)
+    if has_name_and_text(number) {
+        name_and_text_line(number, line)
     } else {
-        None
+        message_line(number, line)
     }
 }
