@@ -1,3 +1,4 @@
 pub mod ShowLemmas
 pub mod LiteralMessages
 pub mod PlaysLemmas
+pub mod PageLemmas

@@ -1,12 +1,13 @@
 -- The lines that are printed, one after the other.
 use Rattle.std.proofs.Common.{◌≡◌, ℕ, ◌≤◌, List, [], ◌∷◌, ◌++◌, Bool, true, false, Option, None, Some, Result, Ok, Err}
-use Rattle.std.proofs.Common.{OnOk, refl, sym, ap, subst, ◌∙◌, append_assoc, append-nil, take}
-use Rattle.std.proofs.Common.{length, codes, ◌≢◌, min, arith, ◌<◌, ◌+◌, ◌*◌, length-append}
+use Rattle.std.proofs.Common.{OnOk, refl, sym, ap, subst, ◌∙◌, append_assoc, append-nil, take, drop}
+use Rattle.std.proofs.Common.{length, codes, ◌≢◌, min, arith, ◌<◌, ◌+◌, ◌-◌, ◌*◌, length-append}
 use Rattle.std.proofs.Common.{not, true≢false, is_some, ◌||◌}
 use Rattle.std.specs.List.{list_all, list_any}
 use Rattle.std.proofs.lemmas.Bool.{and_parts}
 use Rattle.std.specs.Prelude.{◌↔◌}
-use Rattle.std.proofs.lemmas.List.{length-take}
+use Rattle.std.proofs.lemmas.List.{length-take, take_rest}
+use Rattle.std.proofs.Math.Seq.{take-add}
 use Rattle.std.proofs.Math.Nat.{mul-le-mul_right}
 use Rattle.std.specs.Io.KnownBytes.{Appends, Consumes}
 use Rattle.std.proofs.KnownBytes.{Consumes-nil, Appends-nil, Consumes-trans, Appends-trans}
@@ -78,6 +79,17 @@ none_escaped (b ∷ bytes) h =
 pub literal_escaped : (bytes : List ℕ) → list_all is_literal bytes ≡ true → escaped bytes ≡ bytes
 literal_escaped bytes h = escaped_plain bytes (none_escaped bytes h)
 
+-- a line that was not cut is shown by what is read of it, put behind a prefix
+pub line_put : (line : ReadLine) (r : ReadingValue) (old now prefix text : List ℕ) → line.cut ≡ false
+    → IsReading line.bytes r → reading_text r ≡ prefix ++ text → now ≡ old ++ (prefix ++ (text ++ (10 ∷ [])))
+    → (shown : List ℕ) × ShownLine line shown × (now ≡ old ++ (shown ++ (10 ∷ [])))
+line_put line r old now prefix text whole reads says put = (
+  reading_text r,
+  read_line line r whole reads,
+  put ∙ ap (λ l. old ++ l) (sym (append_assoc prefix text (10 ∷ [])))
+      ∙ ap (λ l. old ++ (l ++ (10 ∷ []))) (sym says),
+)
+
 -- a line's text and its end are appended
 pub line_more : (before mid after shown : List ℕ) → mid ≡ before ++ shown → after ≡ mid ++ (10 ∷ [])
     → after ≡ before ++ (shown ++ (10 ∷ []))
@@ -132,6 +144,31 @@ shows_more old mid now front part added text before next = record {
       ∙ ap (λ l. l ++ next.gained) (before.gains s h)
       ∙ append_assoc (lines_of s) before.gained next.gained;
 }
+
+-- a part of a piece and then a part of what follows it are read
+shows_parts : (old mid now : LinesValue) (piece added text : List ℕ) (at used : ℕ) → at ≤ length piece
+    → Shows old mid (take at piece) added → Shows mid now (take used (drop at piece)) text
+    → Shows old now (take (at + used) piece) (added ++ text)
+shows_parts old mid now piece added text at used fits before next =
+    subst (λ l. Shows old now l (added ++ text)) (sym (take-add at used piece))
+    (shows_more old mid now (take at piece) (take used (drop at piece)) added text before next)
+
+-- the same of the rest of a piece as the code cuts it
+pub shows_rest : (old mid now : LinesValue) (piece added text : List ℕ) (at used : ℕ) → at ≤ length piece
+    → Shows old mid (take at piece) added → Shows mid now (take used (take (length piece - at) (drop at piece))) text
+    → Shows old now (take (at + used) piece) (added ++ text)
+shows_rest old mid now piece added text at used fits before next =
+    shows_parts old mid now piece added text at used fits before
+    (subst (λ l. Shows mid now (take used l) text) (take_rest piece at) next)
+
+-- what was put on a page is printed for a longer front of the piece
+pub shows_put : (lines : LinesValue) (piece page now added : List ℕ) (at used : ℕ) → at ≤ length piece
+    → Shows lines lines (take at piece) page → now ≡ page ++ added
+    → Shows lines lines (take used (take (length piece - at) (drop at piece))) added
+    → Shows lines lines (take (at + used) piece) now
+shows_put lines piece page now added at used fits before put next =
+    subst (Shows lines lines (take (at + used) piece)) (sym put)
+    (shows_rest lines lines lines piece page added at used fits before next)
 
 -- what the loop over portions keeps after so many reads of at most `size` bytes: the bytes that were read, what is
 -- printed for their lines, and that this was written

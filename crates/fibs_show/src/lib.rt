@@ -2,5 +2,6 @@
 #![tactic(auto)]
 
 pub mod line;
+mod page;
 pub mod plays;
 pub mod show;

@@ -1,5 +1,5 @@
 //! One line of text for each line of the server.
-ghost use Rattle.std.specs.Prelude.{◌≡◌, ◌++◌, ◌∷◌, [], ℕ, List, codes, OnOk, true};
+ghost use Rattle.std.specs.Prelude.{◌≡◌, ◌++◌, ◌∷◌, [], ℕ, List, codes, OnOk, true, false};
 ghost use Rattle.std.specs.List.{list_all};
 ghost use Rattle.fibs_lines.specs.Lines.{value_of};
 ghost use Rattle.fibs_lines.specs.Literal.{is_literal};
@@ -12,6 +12,7 @@ ghost use Rattle.fibs_engine.specs.Escape.{escaped};
 ghost use Rattle.fibs_engine.specs.Readings.{reading_text};
 ghost use Rattle.fibs_show.specs.Show.{ShownLine};
 
+use crate::page::Page;
 use fibs_boards::Board;
 use fibs_copied_lines::canonical_line;
 use fibs_copied_lines::check::check_board;
@@ -65,27 +66,13 @@ fn append_board(board: &Board, text: &mut Vec<u8>) -> Result<(), AllocError>
     board.print_into(text)
 }
 
-/// Appends bytes, each that is not shown as it is by its escape. Literal bytes are not searched for one.
-#[inline(always)]
-fn append_bytes(bytes: &[u8], literal: bool, text: &mut Vec<u8>) -> Result<(), AllocError>
-    requires { literal ≡ true → list_all is_literal bytes.now ≡ true }
-    ensures { OnOk result (text.new.items ≡ text.old.items ++ escaped bytes.now) }
-{
-    if literal {
-        text.extend_from_slice(bytes)
-    } else {
-        append_escaped(bytes, text)
-    }
-}
-
 /// Appends what is printed for a text.
 #[inline(always)]
-fn append_text(bytes: &[u8], literal: bool, text: &mut Vec<u8>) -> Result<(), AllocError>
-    requires { literal ≡ true → list_all is_literal bytes.now ≡ true }
+fn append_text(bytes: &[u8], text: &mut Vec<u8>) -> Result<(), AllocError>
     ensures { OnOk result (text.new.items ≡ text.old.items ++ (codes "text " ++ escaped bytes.now)) }
 {
     text.extend_from_slice(b"text ")?;
-    append_bytes(bytes, literal, text)
+    append_escaped(bytes, text)
 }
 
 /// Appends what is printed for a board line. A line that says a board is copied.
@@ -102,12 +89,11 @@ fn append_board_line(line: &[u8], text: &mut Vec<u8>) -> Result<(), AllocError>
 
 /// Appends what is printed for a message, by its canonical line.
 #[inline(always)]
-fn append_canonical(canonical: &[u8], literal: bool, text: &mut Vec<u8>) -> Result<(), AllocError>
-    requires { literal ≡ true → list_all is_literal canonical.now ≡ true }
+fn append_canonical(canonical: &[u8], text: &mut Vec<u8>) -> Result<(), AllocError>
     ensures { OnOk result (text.new.items ≡ text.old.items ++ (codes "message " ++ escaped canonical.now)) }
 {
     text.extend_from_slice(b"message ")?;
-    append_bytes(canonical, literal, text)
+    append_escaped(canonical, text)
 }
 
 /// Appends what is printed for a line that is read for it. It is not inlined, since room for what is read is cleared
@@ -122,7 +108,7 @@ fn append_read(alloc: Global, line: &[u8], text: &mut Vec<u8>) -> Result<(), All
     match read(line) {
         Reading::Numbered(message) => append_message(alloc, &message, text),
         Reading::Board(board) => append_board(&board, text),
-        Reading::Text(bytes) => append_text(bytes, false, text),
+        Reading::Text(bytes) => append_text(bytes, text),
         Reading::Malformed {
             number,
             field,
@@ -133,13 +119,7 @@ fn append_read(alloc: Global, line: &[u8], text: &mut Vec<u8>) -> Result<(), All
 
 /// Appends what is printed for a line that was not cut. Nearly all lines of a server are spelled as they are printed.
 #[inline(always)]
-fn append_reading(
-    alloc: Global,
-    line: &[u8],
-    literal: bool,
-    text: &mut Vec<u8>,
-) -> Result<(), AllocError>
-    requires { literal ≡ true → list_all is_literal line.now ≡ true }
+fn append_reading(alloc: Global, line: &[u8], text: &mut Vec<u8>) -> Result<(), AllocError>
     ensures { OnOk result ((reading : ReadingValue) × IsReading line.now reading
         × (text.new.items ≡ text.old.items ++ reading_text reading)) }
 {
@@ -147,35 +127,12 @@ fn append_reading(
         return append_board_line(line, text);
     }
     if message_number(line).is_none() {
-        return append_text(line, literal, text);
+        return append_text(line, text);
     }
     match canonical_line(line) {
-        Some(canonical) => append_canonical(canonical, literal, text),
+        Some(canonical) => append_canonical(canonical, text),
         None => append_read(alloc, line, text),
     }
-}
-
-/// Appends what is printed for a line, and a line end. The bytes of a line that is `literal` are not searched for one
-/// to escape.
-#[inline(always)]
-fn append_shown(
-    alloc: Global,
-    line: &Line<'_>,
-    literal: bool,
-    text: &mut Vec<u8>,
-) -> Result<(), AllocError>
-    requires { literal ≡ true → list_all is_literal line.now.bytes.now ≡ true }
-    ensures { OnOk result ((shown : List ℕ) × ShownLine (value_of line.now) shown
-        × (text.new.items ≡ text.old.items ++ (shown ++ (10 ∷ [])))) }
-{
-    if line.cut {
-        text.extend_from_slice(b"cut ")?;
-        append_bytes(line.bytes, literal, text)?;
-    } else {
-        append_reading(alloc, line.bytes, literal, text)?;
-    }
-    text.push(b'\n')?;
-    Ok(())
 }
 
 /// Appends what is printed for a line, and a line end.
@@ -183,18 +140,39 @@ pub fn append_line(alloc: Global, line: &Line<'_>, text: &mut Vec<u8>) -> Result
     ensures { OnOk result ((shown : List ℕ) × ShownLine (value_of line.now) shown
         × (text.new.items ≡ text.old.items ++ (shown ++ (10 ∷ [])))) }
 {
-    append_shown(alloc, line, false, text)
+    if line.cut {
+        text.extend_from_slice(b"cut ")?;
+        append_escaped(line.bytes, text)?;
+    } else {
+        append_reading(alloc, line.bytes, text)?;
+    }
+    text.push(b'\n')?;
+    Ok(())
 }
 
-/// The same for a line of literal bytes, none of which is escaped.
-pub fn append_literal_line(
-    alloc: Global,
-    line: &Line<'_>,
-    text: &mut Vec<u8>,
-) -> Result<(), AllocError>
+/// Puts what is printed for a line of literal bytes, none of which is escaped, and a line end on a page, if there is
+/// room and the line is seen at once to be spelled as it is printed. If not, nothing is put there.
+#[inline(always)]
+pub(crate) fn put_line(line: &Line<'_>, page: &mut Page) -> bool
     requires { list_all is_literal line.now.bytes.now ≡ true }
-    ensures { OnOk result ((shown : List ℕ) × ShownLine (value_of line.now) shown
-        × (text.new.items ≡ text.old.items ++ (shown ++ (10 ∷ [])))) }
+    ensures put { result ≡ true → (shown : List ℕ) × ShownLine (value_of line.now) shown
+        × (page.new ≡ page.old ++ (shown ++ (10 ∷ []))) }
+    ensures kept { result ≡ false → page.new ≡ page.old }
 {
-    append_shown(alloc, line, true, text)
+    if line.cut {
+        return false;
+    }
+    if is_board_line(line.bytes) {
+        return match check_board(line.bytes) {
+            Ok(board) => page.put(b"", board),
+            Err(_) => false,
+        };
+    }
+    if message_number(line.bytes).is_none() {
+        return page.put(b"text ", line.bytes);
+    }
+    match canonical_line(line.bytes) {
+        Some(canonical) => page.put(b"message ", canonical),
+        None => false,
+    }
 }

@@ -7,7 +7,8 @@ ghost use Rattle.fibs_engine.specs.Reads.{LostAtLeast, LostAtMost};
 ghost use Rattle.fibs_show.specs.Shows.{EndsText, Shows};
 ghost use Rattle.fibs_engine.specs.Writing.{GainedFront};
 
-use crate::line::{append_line, append_literal_line, append_number};
+use crate::line::{append_line, append_number, put_line};
+use crate::page::Page;
 use fibs_engine::fault::EngineFault;
 use fibs_engine::limits::{MOST_INPUT_READS, READ_PORTION};
 use fibs_engine::status::Status;
@@ -122,6 +123,7 @@ pub fn show_portions<R: Read, W: Write>(
 {
     let mut lines = Lines::new();
     let mut text = Vec::new(alloc);
+    let mut page = Page::new();
     laws::empty_stream_has_no_line();
     for made in 0..reads {
         let count = match reader.read(portion) {
@@ -129,7 +131,7 @@ pub fn show_portions<R: Read, W: Write>(
             Ok(count) => count,
             Err(_) => return Err(StreamFault::Reader),
         };
-        append_portion(alloc, &mut lines, &portion[..count], &mut text)?;
+        append_portion(alloc, &mut lines, &portion[..count], &mut page, &mut text)?;
         write_bytes(text.as_slice(), writer)?;
         text.clear();
     }
@@ -188,12 +190,52 @@ fn append_fed(
     Ok(used)
 }
 
-/// The same. A line that is whole in the piece is printed from there, which nearly all lines of a server are.
+/// Puts what is printed for the line that the piece begins with on a page, if the line is whole in the piece and
+/// spelled as it is printed, which nearly all lines of a server are. It answers how many bytes were read, 0 if nothing
+/// was put.
+#[inline(always)]
+fn put_next(lines: &Lines, piece: &[u8], page: &mut Page) -> usize
+    ensures range { result ≤ length piece.now }
+    ensures shows { (added : List ℕ) × (page.new ≡ page.old ++ added)
+        × Shows lines.now lines.now (take result piece.now) added }
+{
+    match lines.whole_line(piece) {
+        Some(whole) => {
+            if put_line(&whole.line, page) {
+                whole.used
+            } else {
+                0
+            }
+        }
+        None => 0,
+    }
+}
+
+/// Puts what is printed for the lines that the piece begins with on a page, up to one for which nothing is put, and
+/// nothing else. It answers how many bytes were read.
 #[inline(never)]
+fn put_lines(lines: &Lines, piece: &[u8], page: &mut Page) -> usize
+    ensures range { result ≤ length piece.now }
+    ensures shows { Shows lines.now lines.now (take result piece.now) page.new }
+{
+    page.clear();
+    let mut at = 0;
+    loop {
+        let used = put_next(lines, &piece[at..], page);
+        if used == 0 {
+            return at;
+        }
+        at += used;
+    }
+}
+
+/// Appends what is printed for the lines that are whole in the piece, from its front, and for the next line, if the
+/// piece ends it. It answers how many bytes were read.
 fn append_next(
     alloc: Global,
     lines: &mut Lines,
     piece: &[u8],
+    page: &mut Page,
     text: &mut Vec<u8>,
 ) -> Result<usize, AllocError>
     requires { 0 < length piece.now }
@@ -201,20 +243,21 @@ fn append_next(
     ensures shows { IfOk result (λ used. (added : List ℕ) × (text.new.items ≡ text.old.items ++ added)
         × Shows lines.old lines.new (take used piece.now) added) }
 {
-    match lines.whole_line(piece) {
-        Some(whole) => {
-            append_literal_line(alloc, &whole.line, text)?;
-            Ok(whole.used)
-        }
-        None => append_fed(alloc, lines, piece, text),
+    let put = put_lines(lines, piece, page);
+    text.extend_from_slice(page.as_slice())?;
+    if put == piece.len() {
+        return Ok(put);
     }
+    let used = append_fed(alloc, lines, &piece[put..], text)?;
+    Ok(put + used)
 }
 
-/// Appends what is printed for each line that the portion ends.
+/// Appends what is printed for each line that the portion ends. What is on the page before and after says nothing.
 fn append_portion(
     alloc: Global,
     lines: &mut Lines,
     portion: &[u8],
+    page: &mut Page,
     text: &mut Vec<u8>,
 ) -> Result<(), AllocError>
     ensures { OnOk result ((added : List ℕ) × (text.new.items ≡ text.old.items ++ added)
@@ -222,7 +265,7 @@ fn append_portion(
 {
     let mut rest = portion;
     while !rest.is_empty() {
-        let used = append_next(alloc, lines, rest, text)?;
+        let used = append_next(alloc, lines, rest, page, text)?;
         rest = &rest[used..];
     }
     Ok(())

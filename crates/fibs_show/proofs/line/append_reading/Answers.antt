@@ -1,16 +1,8 @@
-use Rattle.std.proofs.Common.{◌++◌, codes, refl, ap, ◌∙◌}
-use Rattle.std.specs.List.{list_all}
-use Rattle.fibs_lines.specs.Literal.{is_literal}
+use Rattle.std.proofs.Common.{◌++◌, codes, refl, ap}
 use Rattle.fibs_messages.specs.Line.{numbered_line, text_line}
 use Rattle.fibs_engine.specs.Escape.{escaped}
-use Rattle.fibs_show.proofs.LiteralMessages.{literal_message}
 use Rattle.fibs_show.proofs.ShowLemmas.{no_board, no_number, reading_shown}
 use Rattle.fibs_show.proofs.line.append_reading.Goals as goal
-
-pub append_canonical-requires : goal.append_canonical-requires
-append_canonical-requires c = λ literal.
-    let says = c.in-Some.ensures in
-    ap (list_all is_literal) says.2 ∙ literal_message says.0 c.args.line.now says.1 (c.requires literal)
 
 pub returns-then-is_none : goal.returns-then-is_none
 returns-then-is_none c =

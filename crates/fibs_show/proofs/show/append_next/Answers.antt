@@ -1,15 +1,17 @@
-use Rattle.std.proofs.Common.{◌++◌, ◌∷◌, []}
-use Rattle.fibs_lines.specs.Feeding.{fed_of}
-use Rattle.fibs_show.proofs.ShowLemmas.{lent_some, shows_fed}
+use Rattle.std.proofs.Common.{◌++◌, ◌∙◌, ap, append_assoc}
+use Rattle.fibs_show.proofs.ShowLemmas.{shows_rest}
 use Rattle.fibs_show.proofs.show.append_next.Goals as goal
 
-pub returns-in_ok-append_literal_line-in-Some-clause-shows : goal.returns-in_ok-append_literal_line-in-Some-clause-shows
-returns-in_ok-append_literal_line-in-Some-clause-shows c =
-    let whole = c.in-Some.whole in
-    let shown = c.in_ok-append_literal_line-in-Some.ensures in
-    let lines = c.args.lines.now in (
-      shown.0 ++ (10 ∷ []),
-      shown.2,
-      shows_fed lines lines c.args.piece.now (shown.0 ++ (10 ∷ [])) (fed_of whole) c.in-Some.ensures.stands
-          c.in-Some.ensures.feeds (lent_some whole.line shown.0 shown.1),
+pub returns-clause-shows : goal.returns-clause-shows
+returns-clause-shows c =
+    let lines = c.args.lines.now in
+    let before = c.args.text.now.items in
+    let page = c.put_lines-put.new.page in
+    let next = c.in_ok-used.ensures.shows in (
+      page ++ next.0,
+      next.1
+          ∙ ap (λ l. l ++ next.0) (c.in_ok-extend_from_slice.ensures.items ∙ ap (λ l. before ++ l) c.as_slice.ensures)
+          ∙ append_assoc before page next.0,
+      shows_rest lines lines c.append_fed.new.lines c.args.piece.now page next.0 c.put_lines-put.result
+          c.in_ok-used.used c.put_lines-put.ensures.range c.put_lines-put.ensures.shows next.2,
     )

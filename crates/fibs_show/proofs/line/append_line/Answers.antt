@@ -3,20 +3,20 @@ use Rattle.fibs_lines.specs.Lines.{value_of}
 use Rattle.fibs_engine.specs.Escape.{escaped}
 use Rattle.fibs_engine.specs.Readings.{reading_text}
 use Rattle.fibs_show.proofs.ShowLemmas.{cut_line, read_line, line_more}
-use Rattle.fibs_show.proofs.line.append_shown.Goals.{then-line+in_ok-extend_from_slice+in_ok-append_bytes}
-use Rattle.fibs_show.proofs.line.append_shown.Goals.{else-line+in_ok-append_reading}
-use Rattle.fibs_show.proofs.line.append_shown.Goals as goal
+use Rattle.fibs_show.proofs.line.append_line.Goals.{then-line+in_ok-extend_from_slice+in_ok-append_escaped}
+use Rattle.fibs_show.proofs.line.append_line.Goals.{else-line+in_ok-append_reading}
+use Rattle.fibs_show.proofs.line.append_line.Goals as goal
 
 pub returns : goal.returns
 returns c =
     let line = value_of c.args.line.now in
     let before = c.args.text.now.items in
     elim c.if-line.branch [
-      | then-line+in_ok-extend_from_slice+in_ok-append_bytes w ↦ (
+      | then-line+in_ok-extend_from_slice+in_ok-append_escaped w ↦ (
         codes "cut " ++ escaped line.bytes,
         cut_line line w.if-line.true,
         line_more before c.if-line.text.items _ (codes "cut " ++ escaped line.bytes)
-            (rw w.text-is (w.in_ok-append_bytes.ensures
+            (rw w.text-is (w.in_ok-append_escaped.ensures
             ∙ ap (λ l. l ++ escaped line.bytes) w.in_ok-extend_from_slice.ensures.items
             ∙ append_assoc before (codes "cut ") (escaped line.bytes)))
             c.in_ok-push.ensures.items,
