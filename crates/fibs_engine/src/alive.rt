@@ -11,7 +11,7 @@ const QUIET_SECONDS: i32 = 60;
 const BETWEEN_SECONDS: i32 = 15;
 
 /// After how many probes without an answer the connection is over.
-const QUESTIONS: i32 = 4;
+const PROBES: i32 = 4;
 
 /// Sets an option of a socket to a number. If it can't be set it stays as it is.
 fn set(fd: RawFd, level: i32, name: i32, number: i32)
@@ -26,6 +26,6 @@ fn set(fd: RawFd, level: i32, name: i32, number: i32)
 pub fn keep_alive(fd: RawFd) {
     set(fd, c::IPPROTO_TCP, c::TCP_KEEPIDLE, QUIET_SECONDS);
     set(fd, c::IPPROTO_TCP, c::TCP_KEEPINTVL, BETWEEN_SECONDS);
-    set(fd, c::IPPROTO_TCP, c::TCP_KEEPCNT, QUESTIONS);
+    set(fd, c::IPPROTO_TCP, c::TCP_KEEPCNT, PROBES);
     set(fd, c::SOL_SOCKET, c::SO_KEEPALIVE, 1);
 }
