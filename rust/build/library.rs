@@ -33,6 +33,7 @@ pub const BY_HAND: &[(&str, &str, &str)] = &[
     ("fibs_carrier", "lib", "mod carrier;\npub use carrier::{Broken, Carrier, InMemory, Way};\n"),
     ("fibs_carrier", "sockets", ""),
     ("fibs_engine", "alive", ""),
+    ("fibs_engine", "attention", ""),
     ("fibs_engine", "dial", ""),
     ("fibs_engine", "link", ""),
     ("fibs_engine", "logging", ""),

@@ -4,6 +4,7 @@
 #![tactic(auto)]
 
 mod alive;
+pub mod attention;
 pub mod dial;
 pub mod escape;
 pub mod fault;

@@ -3,6 +3,7 @@
 ghost use Rattle.std.specs.Prelude.{◌≤◌, length, IfSome};
 ghost use Rattle.std.specs.Io.{ReadsAtMost};
 
+use crate::attention::{Attention, Pace};
 use crate::dial::{Dial, Server};
 use crate::limits::READ_PORTION;
 use crate::link::{Link, is_quiet};
@@ -11,6 +12,7 @@ use fibs_lines::{LOGIN_PROMPT, Lines};
 use std::io;
 use std::io::{ErrorKind, Read, Write};
 use std::net::{Net, TcpStream};
+use std::os::fd::AsRawFd;
 
 /// How often a server is read before the program looks at what was typed meanwhile.
 const READS_AT_ONCE: u32 = 64;
@@ -21,7 +23,9 @@ const LOGIN_MILLIS: u64 = 2000;
 /// With what the line begins in which a server greets the user.
 const GREETING: &[u8] = b"1 ";
 
-/// A stream that is quiet after so many reads, though more may have come. So a turn ends in time, whatever is sent.
+/// A stream that is quiet after so many reads, though more may have come. So a turn ends in time, whatever is sent. If
+/// something is typed it is quiet at once, but for one read of what has come, and unless something was sent meanwhile:
+/// then the answer is waited for.
 ///
 /// Once it is not quiet for a while: if the last that came is the question for the login, and the user was not greeted
 /// on this connection. Whatever comes meanwhile is kept, up to the greeting, so that a turn that ends then was not
@@ -29,7 +33,12 @@ const GREETING: &[u8] = b"1 ";
 #[derive(Drop)]
 pub struct Paced<S: Link + Drop> {
     stream: S,
+    /// What is typed while the server is heard, if it is waited for.
+    attention: Option<Attention>,
+    /// How often it was read since it was quiet.
     reads: u32,
+    /// Something was sent since it was quiet.
+    has_sent: bool,
     /// How often a quiet stream is read again if the server asks for the login.
     patience: u64,
     /// What has come, as lines, up to the greeting.
@@ -44,10 +53,12 @@ pub struct Paced<S: Link + Drop> {
 
 impl<S: Link + Drop> Paced<S> {
     /// The same stream, from which nothing was read in this turn.
-    pub fn new(stream: S, patience: u64) -> Paced<S> {
+    pub fn new(stream: S, attention: Option<Attention>, patience: u64) -> Paced<S> {
         Paced {
             stream,
+            attention,
             reads: 0,
+            has_sent: false,
             patience,
             lines: Lines::new(),
             greeted: false,
@@ -109,6 +120,30 @@ impl<S: Link + Drop> Paced<S> {
         }
     }
 
+    /// It is quiet: what comes next begins anew.
+    fn pause(&mut self) {
+        self.reads = 0;
+        self.has_sent = false;
+    }
+
+    /// Waits for the server, and says whether it may be read: not if something is typed, or it is quiet.
+    fn may_read(&self) -> bool {
+        match &self.attention {
+            Some(attention) if !self.has_sent => attention.may_read(self.reads > 1),
+            _ => true,
+        }
+    }
+
+    /// Reads what has come, or what comes before the server is quiet, or something is typed.
+    fn receive_soon(&mut self, buf: &mut [u8]) -> io::Result<usize>
+        ensures { ReadsAtMost result buf.new }
+    {
+        if !self.may_read() {
+            return Err(io::Error::from(ErrorKind::WouldBlock));
+        }
+        self.stream.receive(buf)
+    }
+
     /// Waits for the answer to a login.
     fn receive_answer(&mut self, buf: &mut [u8]) -> io::Result<usize>
         ensures { ReadsAtMost result buf.new }
@@ -132,7 +167,7 @@ impl<S: Link + Drop> Read for Paced<S> {
 
 impl<S: Link + Drop> Write for Paced<S> {
     fn write(&mut self, buf: &[u8]) -> io::Result<usize> {
-        self.stream.write(buf)
+        self.transmit(buf)
     }
 
     fn flush(&mut self) -> io::Result<()> {
@@ -143,7 +178,7 @@ impl<S: Link + Drop> Write for Paced<S> {
 impl<S: Link + Drop> Link for Paced<S> {
     fn receive(&mut self, buf: &mut [u8]) -> io::Result<usize> {
         if self.reads >= READS_AT_ONCE {
-            self.reads = 0;
+            self.pause();
             return Err(io::Error::from(ErrorKind::WouldBlock));
         }
         self.reads += 1;
@@ -154,17 +189,18 @@ impl<S: Link + Drop> Link for Paced<S> {
         let answer = if was_asked {
             self.receive_answer(buf)
         } else {
-            self.stream.receive(buf)
+            self.receive_soon(buf)
         };
         match &answer {
             Ok(count) if !was_asked && !self.greeted => self.hear(&buf[..*count]),
             Ok(_) => {}
-            Err(_) => self.reads = 0,
+            Err(_) => self.pause(),
         }
         answer
     }
 
     fn transmit(&mut self, buf: &[u8]) -> io::Result<usize> {
+        self.has_sent = true;
         self.stream.transmit(buf)
     }
 }
@@ -173,16 +209,13 @@ impl<S: Link + Drop> Link for Paced<S> {
 #[derive(Drop)]
 pub struct PacedServer<'a, N: Net<Stream = TcpStream>> {
     server: Server<'a, N>,
-    patience: u64,
+    pace: Pace,
 }
 
 impl<'a, N: Net<Stream = TcpStream>> PacedServer<'a, N> {
-    /// The same server, each read of which waits so many milliseconds.
-    pub fn new(server: Server<'a, N>, millis: u64) -> PacedServer<'a, N> {
-        PacedServer {
-            server,
-            patience: LOGIN_MILLIS / millis.max(1),
-        }
+    /// The same server, which is read at this pace.
+    pub fn new(server: Server<'a, N>, pace: Pace) -> PacedServer<'a, N> {
+        PacedServer { server, pace }
     }
 }
 
@@ -191,7 +224,11 @@ impl<N: Net<Stream = TcpStream>> Dial for PacedServer<'_, N> {
 
     fn dial(&mut self) -> Result<Paced<TcpStream>, ErrorKind> {
         match self.server.dial() {
-            Ok(stream) => Ok(Paced::new(stream, self.patience)),
+            Ok(stream) => {
+                let attention = Attention::new(stream.as_raw_fd(), self.pace);
+                let patience = LOGIN_MILLIS / self.pace.millis.max(1);
+                Ok(Paced::new(stream, attention, patience))
+            }
             Err(why) => Err(why),
         }
     }

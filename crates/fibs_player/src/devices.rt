@@ -9,6 +9,7 @@ use fibs_arguments::{Answer, Asked, Call, Request};
 use fibs_boards::Board;
 use fibs_cli::{program, told_line};
 use fibs_drawing::append_picture;
+use fibs_engine::attention::Pace;
 use fibs_engine::dial::READ_MILLIS;
 use fibs_engine::fault::EngineFault;
 use fibs_engine::fixed::{append, append_number};
@@ -156,11 +157,19 @@ fn connect(rt: &HostRuntime, streams: &mut Streams, call: Call<'_>) -> Result<u8
             let typing = rt.stdin().as_raw_fd();
             if let Ok(mut watch) = PollWatch::new(rt, rt.alloc(), typing, &heard) {
                 let net = WatchedNet::new(rt, heard.registry());
-                return play(rt, &net, call, TERMINAL_MILLIS, &mut typed, &mut watch, out);
+                let pace = Pace {
+                    millis: TERMINAL_MILLIS,
+                    typed: Some(typing),
+                };
+                return play(rt, &net, call, pace, &mut typed, &mut watch, out);
             }
         }
     }
-    play(rt, rt, call, READ_MILLIS, &mut typed, &mut Unwatched, out)
+    let pace = Pace {
+        millis: READ_MILLIS,
+        typed: None,
+    };
+    play(rt, rt, call, pace, &mut typed, &mut Unwatched, out)
 }
 
 /// What is read before what is typed: the password's line, if a file has it. If it is to be typed, it is asked for.

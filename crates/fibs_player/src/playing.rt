@@ -3,6 +3,7 @@
 use crate::ordering::{OrderedInput, OrderedServer, OrderedWatch};
 use fibs_arguments::Call;
 use fibs_connect::{answer_lines, converse_on, converse_with};
+use fibs_engine::attention::Pace;
 use fibs_engine::dial::{Dial, Place, Server};
 use fibs_engine::fault::EngineFault;
 use fibs_engine::limits::MOST_INPUT_READS;
@@ -195,13 +196,13 @@ fn print<D: Dial, R: Read, V: Watch>(
     }
 }
 
-/// Talks with a server, each read of which waits so many milliseconds: as a terminal shows it, if the standard output
+/// Talks with a server, which is read at this pace: as a terminal shows it, if the standard output
 /// is one and no objects are asked for, else as the engines print it; and with a log, if one is asked for.
 pub fn play<N: Net<Listener = TcpListener, Stream = TcpStream>, R: Read, V: Watch>(
     rt: &HostRuntime,
     net: &N,
     call: Call<'_>,
-    millis: u64,
+    pace: Pace,
     input: &mut R,
     watch: &mut V,
     out: &mut Noted<Stdout>,
@@ -211,9 +212,9 @@ pub fn play<N: Net<Listener = TcpListener, Stream = TcpStream>, R: Read, V: Watc
         let _said = write_bytes(NO_LOG, &mut rt.stderr());
         return Ok(Status::Device.code());
     }
-    let mut server = Server::new(net, place_of(call, millis));
+    let mut server = Server::new(net, place_of(call, pace.millis));
     if rt.stdout().is_terminal() && !call.json {
-        let mut paced = PacedServer::new(server, millis);
+        let mut paced = PacedServer::new(server, pace);
         if call.log.is_none() {
             return play_at_terminal(rt, &mut paced, call, input, watch, out);
         }

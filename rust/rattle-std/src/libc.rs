@@ -35,7 +35,7 @@ pub mod net {
     use super::types::pollfd;
     use std::os::fd::RawFd;
 
-    pub use libc::{IPPROTO_TCP, SO_KEEPALIVE, SOL_SOCKET, TCP_KEEPCNT, TCP_KEEPINTVL};
+    pub use libc::{IPPROTO_TCP, POLLHUP, POLLIN, SO_KEEPALIVE, SOL_SOCKET, TCP_KEEPCNT, TCP_KEEPINTVL};
 
     #[cfg(any(target_os = "macos", target_os = "ios"))]
     pub use libc::TCP_KEEPALIVE as TCP_KEEPIDLE;
@@ -66,6 +66,8 @@ pub mod net {
     use super::types::pollfd;
     use crate::os::fd::RawFd;
 
+    pub const POLLIN: i16 = 1;
+    pub const POLLHUP: i16 = 0x10;
     pub const IPPROTO_TCP: i32 = 6;
     pub const SOL_SOCKET: i32 = 0xffff;
     pub const SO_KEEPALIVE: i32 = 8;

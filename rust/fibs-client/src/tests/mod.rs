@@ -3,6 +3,8 @@
 //! `crates/fibs_tests`.
 #![allow(clippy::type_complexity, clippy::needless_range_loop)]
 
+#[cfg(unix)]
+mod attention;
 mod boards;
 mod connect;
 mod flushing;

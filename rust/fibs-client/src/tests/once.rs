@@ -1,5 +1,6 @@
 //! Devices that fail once: what failed is not tried again by itself.
 
+use crate::fibs_engine::attention::Pace;
 use crate::fibs_engine::dial::{Dial, Place, Server};
 use crate::fibs_engine::logging::LoggedServer;
 use crate::fibs_engine::pacing::PacedServer;
@@ -81,7 +82,7 @@ fn why_none<D: Dial>(door: &mut D) -> Option<ErrorKind> {
 
 /// The same at a terminal.
 fn why_none_paced(net: &Nobody<'_>, place: Place<'_>) -> Option<ErrorKind> {
-    why_none(&mut PacedServer::new(Server::new(net, place), 20))
+    why_none(&mut PacedServer::new(Server::new(net, place), Pace { millis: 20, typed: None }))
 }
 
 /// The same with a log.
