@@ -123,7 +123,7 @@ impl Row {
     }
 
     /// Its words before what it names.
-    pub(crate) fn words_before(self) -> &'static [u8]
+    pub fn words_before(self) -> &'static [u8]
         ensures { result.now ≡ words_before self }
     {
         match self {

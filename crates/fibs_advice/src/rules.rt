@@ -171,7 +171,7 @@ fn append_broken(
     }
 }
 
-/// Appends the rule that a move breaks on a board, or that it breaks one.
+/// Appends the rule that a move breaks on a board; nothing if none can be named.
 ///
 /// Errors: if memory runs out.
 pub fn append_rule(game: &GameBoard, play: &Play, text: &mut Vec<u8>) -> Result<(), AllocError> {
@@ -179,6 +179,6 @@ pub fn append_rule(game: &GameBoard, play: &Play, text: &mut Vec<u8>) -> Result<
     let dice = (board.die(FIRST_DIE), board.die(SECOND_DIE));
     match broken_rule(game.position(), dice, play) {
         Some(broken) => append_broken(&broken, game.direction(), text),
-        None => text.extend_from_slice(b"The rules don't allow this move."),
+        None => Ok(()),
     }
 }

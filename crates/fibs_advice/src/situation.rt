@@ -66,7 +66,7 @@ pub struct Situation {
     /// Whether a message has come since that is not the greeting.
     hears_others: bool,
     /// Whether the opponent has logged in on this connection, and not out again. Servers need not list him then.
-    pub has_come: bool,
+    pub is_opponent_here: bool,
     /// Whether the message of the day is being said: its lines may have any words.
     is_motd: bool,
 }
@@ -115,7 +115,7 @@ impl Situation {
             left: Left::Nothing,
             logs_in: false,
             hears_others: false,
-            has_come: false,
+            is_opponent_here: false,
             is_motd: false,
         }
     }
@@ -135,7 +135,7 @@ impl Situation {
         self.is_due = false;
         self.logs_in = true;
         self.hears_others = false;
-        self.has_come = false;
+        self.is_opponent_here = false;
         self.is_motd = false;
     }
 
@@ -148,7 +148,7 @@ impl Situation {
     pub fn hear_login(&mut self, name: &[u8]) {
         self.hears_others = true;
         if self.opponent.as_slice() == name {
-            self.has_come = true;
+            self.is_opponent_here = true;
         }
     }
 
@@ -156,7 +156,7 @@ impl Situation {
     pub fn hear_logout(&mut self, name: &[u8]) {
         self.hears_others = true;
         if self.opponent.as_slice() == name {
-            self.has_come = false;
+            self.is_opponent_here = false;
         }
         if self.inviter.as_slice() == name {
             self.standing = self.standing.after_not_invited();
@@ -222,7 +222,7 @@ impl Situation {
     /// Keeps the name of the opponent. Of another one it is not known whether he has come.
     fn keep_opponent(&mut self, name: &[u8]) {
         if self.opponent.as_slice() != name {
-            self.has_come = false;
+            self.is_opponent_here = false;
             keep_name(name, &mut self.opponent);
         }
     }

@@ -244,8 +244,8 @@ fn first_of<'a>(shapes: &[Shape], text: &'a [u8]) -> Option<(Told, &'a [u8])> {
     None
 }
 
-/// The word at the front of a text, without the full stop or the quotation mark after it.
-fn word_in_front(text: &[u8]) -> &[u8] {
+/// The first word of a text, without the full stop or the quotation mark after it.
+fn first_word(text: &[u8]) -> &[u8] {
     let word = split(text, b' ').0;
     match word.strip_suffix(b".") {
         Some(name) => name,
@@ -276,7 +276,7 @@ pub fn read_told(text: &[u8]) -> Option<Report<'_>> {
         return Some(Report { told, name: b"" });
     }
     if let Some((told, rest)) = first_of(naming(), text) {
-        let name = name_or_none(word_in_front(rest));
+        let name = name_or_none(first_word(rest));
         return Some(Report { told, name });
     }
     read_of_a_player(text)

@@ -1,13 +1,13 @@
 //! The boards of a terminal, and what it shows of one that comes.
 use crate::outcomes::append_outcome;
-use crate::picture::{NOTHING_CAME, append_marked, came_since};
+use crate::picture::{NO_ARRIVALS, append_marked, arrivals_since};
 use fibs_boards::Board;
 use fibs_boards::fields::{
     FIRST_DIE, FIRST_PLACE, LAST_PLACE, OTHER_FIRST_DIE, OTHER_OFF, OTHER_SECOND_DIE, OWN_OFF,
     SECOND_DIE,
 };
 use fibs_environment::Page;
-use fibs_environment::pieces::{append_all, front};
+use fibs_environment::pieces::{append_all, short_name};
 use fibs_position::{GameBoard, Phase};
 use itoa::Buffer;
 use std::alloc::AllocError;
@@ -133,12 +133,19 @@ impl Boards {
             }
         }
         self.drawn = Some(*game);
-        let came = match &self.drawn_before {
-            Some(before) => came_since(before, game),
-            None => NOTHING_CAME,
+        let arrivals = match &self.drawn_before {
+            Some(before) => arrivals_since(before, game),
+            None => NO_ARRIVALS,
         };
         let alloc = page.alloc;
-        append_marked(alloc, game, &came, &page.settings, is_above, &mut page.text)
+        append_marked(
+            alloc,
+            game,
+            &arrivals,
+            &page.settings,
+            is_above,
+            &mut page.text,
+        )
     }
 
     /// Says how a game ended, by the board of its end.
@@ -182,7 +189,7 @@ fn append_board(board: &Board, phase: Phase, row: &mut Vec<u8>) -> Result<(), Al
 
 /// Appends that the opponent has the turn, and his dice, if they are shown.
 fn append_opponents_turn(board: &Board, row: &mut Vec<u8>) -> Result<(), AllocError> {
-    row.extend_from_slice(front(board.opponent().bytes()))?;
+    row.extend_from_slice(short_name(board.opponent().bytes()))?;
     if board.die(OTHER_FIRST_DIE) == 0 {
         return row.extend_from_slice(b"'s turn.");
     }

@@ -4,7 +4,7 @@ use fibs_boards::Board;
 use fibs_boards::fields::{
     CUBE, MATCH_LENGTH, OTHER_OFF, OTHER_SCORE, OWN_OFF, OWN_SCORE, UNLIMITED,
 };
-use fibs_environment::pieces::{append_all, break_row, front};
+use fibs_environment::pieces::{append_all, break_row, short_name};
 use itoa::Buffer;
 use std::alloc::AllocError;
 
@@ -88,7 +88,7 @@ fn append_scores(board: &Board, text: &mut Vec<u8>) -> Result<(), AllocError> {
             b". You ",
             own.format(field(board, OWN_SCORE)).as_bytes(),
             b", ",
-            front(board.opponent().bytes()),
+            short_name(board.opponent().bytes()),
             b" ",
             other.format(field(board, OTHER_SCORE)).as_bytes(),
         ],
@@ -132,7 +132,7 @@ fn append_winner(
         }
         Winner::Other => {
             let points = gained(before, board, OTHER_SCORE);
-            let who = front(board.opponent().bytes());
+            let who = short_name(board.opponent().bytes());
             append_win(who, b" wins", points, cube, text)
         }
         Winner::Unknown => text.extend_from_slice(b"The game is over"),

@@ -7,7 +7,7 @@ ghost use Rattle.fibs_drawing.specs.Drawings.{DrawsBoard, is_plain, TellsBoard, 
 use crate::layout::{append_below, is_left_out, is_narrow, row_at, shown_byte};
 use crate::worded::append_words;
 use fibs_environment::Settings;
-use fibs_environment::pieces::{append_all, front};
+use fibs_environment::pieces::{append_all, short_name};
 use fibs_picture::{
     BOARD_COLUMNS, DEED_ROW, DICE_ROW, FREE_CUBE, MOST_SEEN, OPPONENTS_CUBE, OPPONENTS_TURN,
     OWN_LETTER, PICTURE_COLUMNS, draw, draw_board, height_at, place_at,
@@ -22,39 +22,43 @@ type Mark = [&'static [u8]; 2];
 const OWN: Mark = [b"\x1b[1m", b"\x1b[0m"];
 
 /// The mark of a checker that has come by the opponent's last move.
-const CAME: Mark = [b"\x1b[35m", b"\x1b[0m"];
+const ARRIVED: Mark = [b"\x1b[35m", b"\x1b[0m"];
 
 /// The mark of all else.
 const UNMARKED: Mark = [b"", b""];
 
 /// How many checkers of the opponent have come to each place, by the player's own numbering.
-pub(crate) type Came = [u8; 25];
+pub(crate) type Arrivals = [u8; 25];
 
 /// How many checkers move at most in a turn: if more have come it was no move.
 const MOST_MOVED: u8 = 4;
 
 /// None has come.
-pub(crate) const NOTHING_CAME: Came = [0; 25];
+pub(crate) const NO_ARRIVALS: Arrivals = [0; 25];
 
 /// How many have come to each place since an earlier board, if that was of the same opponent and it was one move.
-pub(crate) fn came_since(before: &GameBoard, game: &GameBoard) -> Came {
+pub(crate) fn arrivals_since(before: &GameBoard, game: &GameBoard) -> Arrivals {
     if before.board().opponent().bytes() != game.board().opponent().bytes() {
-        return NOTHING_CAME;
+        return NO_ARRIVALS;
     }
-    let mut came = NOTHING_CAME;
+    let mut arrivals = NO_ARRIVALS;
     let mut all = 0u8;
     for place in 1..25u8 {
         let there = game.position().other(place);
         let more = there.saturating_sub(before.position().other(place));
-        came[usize::from(place)] = more;
+        arrivals[usize::from(place)] = more;
         all = all.saturating_add(more);
     }
-    if all > MOST_MOVED { NOTHING_CAME } else { came }
+    if all > MOST_MOVED {
+        NO_ARRIVALS
+    } else {
+        arrivals
+    }
 }
 
 /// The mark of a byte: a checker of the player on a place, a die of the player, or a checker that has come by the
 /// opponent's last move. Those that have come to a place are the innermost ones there.
-fn mark_of(byte: u8, row: usize, column: usize, position: &Position, came: &Came) -> Mark {
+fn mark_of(byte: u8, row: usize, column: usize, position: &Position, arrivals: &Arrivals) -> Mark {
     let own = (byte == OWN_LETTER && column < BOARD_COLUMNS)
         || (row == DICE_ROW && column > BOARD_COLUMNS && byte >= b'1' && byte <= b'6');
     if own {
@@ -65,10 +69,10 @@ fn mark_of(byte: u8, row: usize, column: usize, position: &Position, came: &Came
         return UNMARKED;
     }
     let seen = usize::from(position.other(place).min(MOST_SEEN));
-    let count = usize::from(came[usize::from(place)]);
+    let count = usize::from(arrivals[usize::from(place)]);
     let height = height_at(row);
     if count > 0 && height <= seen && height.saturating_add(count) > seen {
-        return CAME;
+        return ARRIVED;
     }
     UNMARKED
 }
@@ -78,7 +82,7 @@ pub(crate) fn append_row(
     bytes: &[u8],
     row: usize,
     position: &Position,
-    came: &Came,
+    arrivals: &Arrivals,
     settings: &Settings<'_>,
     text: &mut Vec<u8>,
 ) -> Result<(), AllocError> {
@@ -90,7 +94,7 @@ pub(crate) fn append_row(
     let shown = &bytes[..bytes.len().min(most)];
     for column in 0..shown.len() {
         let [before, after] = if settings.colour {
-            mark_of(shown[column], row, column, position, came)
+            mark_of(shown[column], row, column, position, arrivals)
         } else {
             UNMARKED
         };
@@ -143,15 +147,22 @@ fn append_rows(
     alloc: Global,
     picture: &[u8],
     game: &GameBoard,
-    came: &Came,
+    arrivals: &Arrivals,
     settings: &Settings<'_>,
     text: &mut Vec<u8>,
 ) -> Result<(), AllocError> {
-    let rows = short_rows(alloc, picture, front(game.board().opponent().bytes()))?;
+    let rows = short_rows(alloc, picture, short_name(game.board().opponent().bytes()))?;
     for place in 0..DEED_ROW {
         let row = row_at(place, settings);
         if let Some(bytes) = rows.get(row) {
-            append_row(bytes.as_slice(), row, game.position(), came, settings, text)?;
+            append_row(
+                bytes.as_slice(),
+                row,
+                game.position(),
+                arrivals,
+                settings,
+                text,
+            )?;
         }
     }
     if is_narrow(settings) {
@@ -166,7 +177,7 @@ fn append_rows(
                 deed.as_slice(),
                 DEED_ROW,
                 game.position(),
-                came,
+                arrivals,
                 settings,
                 text,
             )
@@ -200,7 +211,7 @@ pub fn append_picture(
     ensures told { is_worded settings.now ≡ true → OnOk result ((t : List ℕ)
         × TellsBoard (game_of game.now) t × (text.new.items ≡ text.old.items ++ t)) }
 {
-    append_marked(alloc, game, &NOTHING_CAME, settings, false, text)
+    append_marked(alloc, game, &NO_ARRIVALS, settings, false, text)
 }
 
 /// The same, with marks on the places to which the opponent has moved. Above a hint the last line is left out, unless
@@ -208,7 +219,7 @@ pub fn append_picture(
 pub(crate) fn append_marked(
     alloc: Global,
     game: &GameBoard,
-    came: &Came,
+    arrivals: &Arrivals,
     settings: &Settings<'_>,
     is_above: bool,
     text: &mut Vec<u8>,
@@ -225,7 +236,7 @@ pub(crate) fn append_marked(
         // it has marks, or is narrow
         let mut picture = Vec::new(alloc);
         draw(game, &mut picture).map_err(|_| AllocError)?;
-        return append_rows(alloc, picture.as_slice(), game, came, settings, text);
+        return append_rows(alloc, picture.as_slice(), game, arrivals, settings, text);
     }
     if is_above && !is_shown(DEED_ROW, game) {
         return draw_board(game, text).map_err(|_| AllocError);

@@ -5,10 +5,10 @@ ghost use Rattle.fibs_drawing.specs.Drawings.{is_plain, is_wide, is_worded};
 ghost use Rattle.fibs_drawing.specs.WatchedDrawings.{DrawsWatched, TellsWatched};
 
 use crate::layout::{NAME_COLUMN, append_below, is_narrow, row_at, shown_byte};
-use crate::picture::{NOTHING_CAME, append_row, is_plain, short_rows};
+use crate::picture::{NO_ARRIVALS, append_row, is_plain, short_rows};
 use crate::worded::{append_rows, is_wide};
 use fibs_environment::Settings;
-use fibs_environment::pieces::front;
+use fibs_environment::pieces::short_name;
 use fibs_fields::split::split;
 use fibs_picture::{CUBE_ROW, DEED_ROW, TURN_ROW, draw_watched};
 use fibs_position::WatchedBoard;
@@ -99,7 +99,7 @@ fn append_marked_watched(
 ) -> Result<(), AllocError> {
     let mut picture = Vec::new(alloc);
     draw_watched(watched, &mut picture).map_err(|_| AllocError)?;
-    let opponent = front(watched.board().opponent().bytes());
+    let opponent = short_name(watched.board().opponent().bytes());
     let short = short_rows(alloc, picture.as_slice(), opponent)?;
     let rows = lettered_rows(alloc, short.as_slice(), settings)?;
     for place in 0..DEED_ROW {
@@ -110,7 +110,7 @@ fn append_marked_watched(
                 bytes.as_slice(),
                 row,
                 position,
-                &NOTHING_CAME,
+                &NO_ARRIVALS,
                 settings,
                 text,
             )?;

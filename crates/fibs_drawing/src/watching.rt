@@ -24,8 +24,8 @@ pub struct Watching {
     is_ending: bool,
 }
 
-/// What is said of a name.
-fn front(name: &[u8]) -> &[u8] {
+/// What is said of a name beside another one.
+fn narrow_name(name: &[u8]) -> &[u8] {
     &name[..name.len().min(NAME_ROOM)]
 }
 
@@ -107,9 +107,9 @@ impl Watching {
         match &self.heard {
             Some(heard) if !self.is_ending => page.say_all(&[
                 b"You watch ",
-                front(heard.board().player().bytes()),
+                narrow_name(heard.board().player().bytes()),
                 b" and ",
-                front(heard.board().opponent().bytes()),
+                narrow_name(heard.board().opponent().bytes()),
                 b": unwatch ends it.\n",
             ]),
             _ => Ok(()),
@@ -130,8 +130,8 @@ fn say_board(board: &Board, said: &[u8], page: &mut Page<'_>) -> Result<(), Allo
 
 /// Appends in a row what a board is: the dice that are shown, else who is to act.
 fn append_state(board: &Board, row: &mut Vec<u8>) -> Result<(), AllocError> {
-    let player = front(board.player().bytes());
-    let opponent = front(board.opponent().bytes());
+    let player = narrow_name(board.player().bytes());
+    let opponent = narrow_name(board.opponent().bytes());
     if board.field(TURN) == 0 {
         return row.extend_from_slice(b"The game is over.");
     }

@@ -29,8 +29,8 @@ pub fn break_row(start: usize, place: usize, text: &mut Vec<u8>) {
     }
 }
 
-/// The first bytes of a name.
-pub fn front(name: &[u8]) -> &[u8]
+/// What is shown of a name in a row: 24 bytes of it at most.
+pub fn short_name(name: &[u8]) -> &[u8]
     ensures { result.now ≡ take 24 name.now }
 {
     &name[..name.len().min(24)]

@@ -15,15 +15,15 @@ row_of situation a = advice_text (take 24 situation.opponent.items) (take 24 sit
 
 -- what is written is the row of an advice, or nothing; and it is the row if a board has come since, or a line was sent,
 -- and the row is not one that is said only if the user asks
-pub record SaysRow (situation : Situation) (owes : Bool) (a : Advice) (before : List ℕ) (after : List ℕ) : Type 0 where
+pub record SaysRow (situation : Situation) (says_again : Bool) (a : Advice) (before after : List ℕ) : Type 0 where
   pub made : (after ≡ before) ⊎ (after ≡ before ++ row_of situation a)
-  pub owed : owes ≡ true → is_asked_for a.row ≡ false → after ≡ before ++ row_of situation a
+  pub owed : says_again ≡ true → is_asked_for a.row ≡ false → after ≡ before ++ row_of situation a
 
 -- it is made of what may be advised now, by the history, in the state that the terminal has
 abbrev pub SaysAdvice : ClientValue → Memory → List ℕ → List ℕ → Type 0
 SaysAdvice client memory before after = (a : Advice)
     × ((t : Talk) → StandsAfter client t → Advises t memory.situation.standing a)
-    × SaysRow memory.situation memory.advising.owes a before after
+    × SaysRow memory.situation memory.advising.says_again a before after
 
 -- the same for a writer
 abbrev pub ShowsAdvice : ClientValue → Memory → Option (List ℕ) → Option (List ℕ) → Type 0

@@ -7,6 +7,7 @@ ghost use Rattle.fibs_terminal.specs.declared.commands.Own.TheVariants.{Go};
 
 use crate::looking::{TRY_WHAT, trial_of};
 use crate::screen::Screen;
+use crate::telling::UNKNOWN;
 use bstr::ByteSlice;
 use fibs_advice::rules::append_rule;
 use fibs_advice::spelling::words::append_spelled;
@@ -25,12 +26,24 @@ use fibs_typed::taking::would_take;
 use fibs_typed::typing::{Typed, is_command, read_typed};
 use fibs_wording::help;
 use fibs_wording::players::append_players;
+use fibs_wording::reasons::refusal_words;
 use fibs_wording::server_words::{is_leaving_word, is_passed, is_server_word};
 use std::alloc::{AllocError, Global};
 
 /// A word of the terminal, which the client does not know.
 #[derive(Clone, Copy)]
 enum Own {
+    /// It is answered here.
+    Here(Here),
+    Re,
+    Try,
+    Go,
+    Send,
+}
+
+/// A word that the terminal answers, and for which nothing is sent.
+#[derive(Clone, Copy)]
+enum Here {
     Help,
     Plays,
     Words,
@@ -40,16 +53,9 @@ enum Own {
     Quiet,
     Loud,
     Talk,
-    Re,
-    Try,
-    Go,
     Moves,
     Columns,
-    Send,
 }
-
-/// What is said if a word asks for a board, and there is none.
-pub(crate) const NO_GAME: &[u8] = b"No board on which you play was shown yet: type board.\n";
 
 /// What is said of `send` without a line.
 const SEND_HELP: &[u8] = b"send LINE: LINE goes to the server as it is, unchecked.\n";
@@ -75,20 +81,20 @@ fn own_word(word: &[u8]) -> Option<Own>
     ensures { word.now ≡ codes "go" → result ≡ Some Go }
 {
     match word {
-        b"help" => Some(Own::Help),
-        b"plays" => Some(Own::Plays),
-        b"words" => Some(Own::Words),
-        b"players" => Some(Own::Players),
-        b"gag" => Some(Own::Gag),
-        b"ungag" => Some(Own::Ungag),
-        b"quiet" => Some(Own::Quiet),
-        b"loud" => Some(Own::Loud),
-        b"talk" => Some(Own::Talk),
+        b"help" => Some(Own::Here(Here::Help)),
+        b"plays" => Some(Own::Here(Here::Plays)),
+        b"words" => Some(Own::Here(Here::Words)),
+        b"players" => Some(Own::Here(Here::Players)),
+        b"gag" => Some(Own::Here(Here::Gag)),
+        b"ungag" => Some(Own::Here(Here::Ungag)),
+        b"quiet" => Some(Own::Here(Here::Quiet)),
+        b"loud" => Some(Own::Here(Here::Loud)),
+        b"talk" => Some(Own::Here(Here::Talk)),
         b"re" => Some(Own::Re),
         b"try" => Some(Own::Try),
         b"go" => Some(Own::Go),
-        b"moves" => Some(Own::Moves),
-        b"columns" => Some(Own::Columns),
+        b"moves" => Some(Own::Here(Here::Moves)),
+        b"columns" => Some(Own::Here(Here::Columns)),
         b"send" => Some(Own::Send),
         _ => None,
     }
@@ -196,7 +202,7 @@ fn say_unknown(line: &[u8], page: &mut Page<'_>) -> Result<(), AllocError> {
     }
     match help::word_help(word) {
         Some(words) => page.say(words),
-        None => page.say(b"unknown: help lists the words\n"),
+        None => page.say(UNKNOWN),
     }
 }
 
@@ -264,6 +270,11 @@ fn set_columns(rest: &[u8], page: &mut Page<'_>) -> Result<(), AllocError> {
     Ok(())
 }
 
+/// Says that there is no board for which a word asks.
+pub(crate) fn say_no_game(page: &mut Page<'_>) -> Result<(), AllocError> {
+    page.say_all(&[refusal_words(Refusal::NoBoard), b"\n"])
+}
+
 /// Tells in words the board that is shown: of the game that is watched, else of the user's own.
 fn say_words(client: &Client, watching: &Watching, page: &mut Page<'_>) -> Result<(), AllocError> {
     let alloc = page.alloc;
@@ -271,7 +282,7 @@ fn say_words(client: &Client, watching: &Watching, page: &mut Page<'_>) -> Resul
     match (watching.board(), client.game()) {
         (Some(watched), _) => append_watched_words(alloc, watched, columns, &mut page.text),
         (None, Some(game)) => append_words(alloc, game, columns, &mut page.text),
-        (None, None) => page.say(NO_GAME),
+        (None, None) => say_no_game(page),
     }
 }
 
@@ -351,40 +362,39 @@ impl<'a> Screen<'a> {
                 self.try_move(client, rest)?;
                 Ok(Wish::Answered)
             }
-            Some(own) => {
-                self.answer_own(client, directory, own, rest)?;
+            Some(Own::Here(here)) => {
+                self.answer_here(client, directory, here, rest)?;
                 Ok(Wish::Answered)
             }
         }
     }
 
-    /// Answers a word of the terminal, with what follows it.
-    fn answer_own(
+    /// Answers a word, with what follows it.
+    fn answer_here(
         &mut self,
         client: &Client,
         directory: &Directory,
-        own: Own,
+        here: Here,
         rest: &[u8],
     ) -> Result<(), AllocError>
         ensures { self.new.memory.looking.trial ≡ self.old.memory.looking.trial }
     {
         let alloc = self.page.alloc;
-        match own {
-            Own::Help => self.say_help(rest),
-            Own::Plays => self.memory.looking.say_plays(client, rest, &mut self.page),
-            Own::Words => say_words(client, &self.memory.watching, &mut self.page),
-            Own::Players => {
+        match here {
+            Here::Help => self.say_help(rest),
+            Here::Plays => self.memory.looking.say_plays(client, rest, &mut self.page),
+            Here::Words => say_words(client, &self.memory.watching, &mut self.page),
+            Here::Players => {
                 let asker = self.memory.company.asker();
                 append_players(alloc, directory, rest, &asker, &mut self.page.text)
             }
-            Own::Moves => say_moves(&self.memory.story, rest, &mut self.page),
-            Own::Columns => set_columns(rest, &mut self.page),
-            Own::Talk => self.memory.talk.say_rows(&mut self.page),
-            Own::Gag => self.memory.people.gag(rest, &mut self.page),
-            Own::Ungag => self.memory.people.ungag(rest, &mut self.page),
-            Own::Quiet => self.memory.people.set_quiet(true, &mut self.page),
-            Own::Loud => self.memory.people.set_quiet(false, &mut self.page),
-            Own::Re | Own::Try | Own::Go | Own::Send => self.page.say(SEND_HELP),
+            Here::Moves => say_moves(&self.memory.story, rest, &mut self.page),
+            Here::Columns => set_columns(rest, &mut self.page),
+            Here::Talk => self.memory.talk.say_rows(&mut self.page),
+            Here::Gag => self.memory.people.gag(rest, &mut self.page),
+            Here::Ungag => self.memory.people.ungag(rest, &mut self.page),
+            Here::Quiet => self.memory.people.set_quiet(true, &mut self.page),
+            Here::Loud => self.memory.people.set_quiet(false, &mut self.page),
         }
     }
 

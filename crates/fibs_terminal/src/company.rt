@@ -5,7 +5,7 @@ use fibs_advice::told::Told;
 use fibs_boards::Board;
 use fibs_boards::fields::{MATCH_LENGTH, OTHER_SCORE, OWN_SCORE, UNLIMITED};
 use fibs_environment::Page;
-use fibs_environment::pieces::{append_all, front};
+use fibs_environment::pieces::{append_all, short_name};
 use fibs_fields::split::split;
 use fibs_fields::trailing_spaces::without_spaces;
 use fibs_messages::Message;
@@ -118,7 +118,7 @@ impl Company {
         }
         here.extend_from_slice(b":")?;
         let mut how = Vec::new(alloc);
-        append_all(&[b"invite ", front(name), b"."], &mut how)?;
+        append_all(&[b"invite ", short_name(name), b"."], &mut how)?;
         page.say_joined(here.as_slice(), how.as_slice())
     }
 
@@ -199,7 +199,7 @@ impl Company {
             self.inviter.extend_from_slice(name.bytes())?;
         }
         let mut how = Vec::new(alloc);
-        append_all(&[b": join ", front(name.bytes())], &mut how)?;
+        append_all(&[b": join ", short_name(name.bytes())], &mut how)?;
         let has_room = page.has_room(who.len().saturating_add(how.len()));
         if standing == Standing::Invited && has_room {
             page.say_all(&[who.as_slice(), how.as_slice(), b"\n"])?;

@@ -2,6 +2,7 @@
 
 use crate::screen::{Moment, Screen};
 use crate::talk::Talk;
+use fibs_advice::row::Row;
 use fibs_advice::told::Told;
 use fibs_drawing::Watching;
 use fibs_environment::Page;
@@ -13,17 +14,14 @@ use fibs_wording::messages::append_message;
 use fibs_wording::reasons::append_malformed;
 use std::alloc::AllocError;
 
-/// The row of an invitation, before the name: it was said already.
-const INVITED_ROW: &[u8] = b"You are invited: join ";
-
 /// What the server says to a player who can't move.
 const CANT_MOVE: &[u8] = b"You can't move.";
 
 /// How many bytes of a text are kept, to know a row that would say the same: no row of a board is longer.
 const MOST_KEPT: usize = 80;
 
-/// The first bytes of a text.
-fn front_of(said: &[u8]) -> &[u8] {
+/// What is kept of a text.
+fn kept_of(said: &[u8]) -> &[u8] {
     &said[..said.len().min(MOST_KEPT)]
 }
 
@@ -119,7 +117,7 @@ impl<'a> Screen<'a> {
             return Ok(());
         }
         self.memory.said.clear();
-        self.memory.said.extend_from_slice(front_of(said))?;
+        self.memory.said.extend_from_slice(kept_of(said))?;
         self.page.show_row(said)?;
         self.note_watching(said)
     }
@@ -134,7 +132,7 @@ impl<'a> Screen<'a> {
                 self.memory.watching = Watching::new();
             }
             Some(Told::NotPlaying | Told::NextGame) => self.hear_no_board(),
-            Some(Told::NotInvited) => self.memory.advising.owes = true,
+            Some(Told::NotInvited) => self.memory.advising.says_again = true,
             Some(Told::Resigns) => self.page.ring()?,
             _ => {}
         }
@@ -168,7 +166,7 @@ impl<'a> Screen<'a> {
         if is_said == Some(true) {
             self.memory
                 .advising
-                .settle(INVITED_ROW, self.memory.situation.inviter.as_slice())?;
+                .settle(Row::Invited, self.memory.situation.inviter.as_slice())?;
         }
         Ok(is_said.is_some())
     }

@@ -8,7 +8,7 @@ ghost use Rattle.fibs_advice.specs.declared.trial.Trial.{Trial as AnyTrial};
 ghost use Rattle.fibs_terminal.specs.Asking.{SendsUntaken};
 ghost use Rattle.fibs_terminal.specs.Trying.{IsTriedNow, SendsTried, ShowsTrial, go_row, tried_command};
 
-use crate::commands::{NO_GAME, set_line};
+use crate::commands::{say_no_game, set_line};
 use fibs_advice::plays::{Listing, append_plays};
 use fibs_advice::trial::Trial;
 use fibs_commands::laws::read_command_is_exact;
@@ -83,7 +83,7 @@ impl Looking {
         ensures { self.new.trial ≡ self.old.trial }
     {
         let Some(game) = client.game() else {
-            return page.say(NO_GAME);
+            return say_no_game(page);
         };
         let listing = match rest {
             b"" => Some(Listing::of_all()),

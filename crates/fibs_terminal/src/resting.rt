@@ -5,10 +5,11 @@ ghost use Rattle.fibs_terminal.specs.Resting.{SaysAdvice, SaysRow};
 
 use crate::screen::{Moment, Screen};
 use fibs_advice::advised::{Advice, Aside, advised};
+use fibs_advice::row::Row;
 use fibs_advice::saying::append_advice;
 use fibs_advice::situation::Situation;
 use fibs_environment::Page;
-use fibs_environment::pieces::{append_all, front};
+use fibs_environment::pieces::short_name;
 use fibs_session::{Client, Directory};
 use std::alloc::{AllocError, Global};
 use std::time::Duration;
@@ -21,35 +22,37 @@ const LOGIN_SECONDS: u64 = 2;
 pub struct Advising {
     /// Whether to say what is advised even if it is what was said last: a board has come, or a decision or a line as it
     /// is was sent.
-    pub owes: bool,
+    pub says_again: bool,
     /// Whether the user has asked what is advised: by `help`, by a word that was refused, or by `board`, which has
     /// come.
     pub inquired: bool,
     /// What was advised last.
-    advised: Vec<u8>,
+    said_last: Vec<u8>,
 }
 
 impl Advising {
     /// Nothing was advised.
     pub fn new(alloc: Global) -> Advising {
         Advising {
-            owes: false,
+            says_again: false,
             inquired: false,
-            advised: Vec::new(alloc),
+            said_last: Vec::new(alloc),
         }
     }
 
-    /// A row of an advice, which ends with a name, was said in other words: it is not said again.
-    pub fn settle(&mut self, row: &[u8], name: &[u8]) -> Result<(), AllocError> {
-        self.advised.clear();
-        append_all(&[row, front(name), b"\n"], &mut self.advised)
+    /// A row that ends with a name was said in other words: it is not said again.
+    pub fn settle(&mut self, row: Row, name: &[u8]) -> Result<(), AllocError> {
+        self.said_last.clear();
+        self.said_last.extend_from_slice(row.words_before())?;
+        self.said_last.extend_from_slice(short_name(name))?;
+        self.said_last.extend_from_slice(b"\n")
     }
 
     /// What was advised before counts no more.
     pub fn forget(&mut self) {
-        self.owes = false;
+        self.says_again = false;
         self.inquired = false;
-        self.advised.clear();
+        self.said_last.clear();
     }
 
     /// Says what is advised, unless it was said last and is not owed; what is said only if the user asks, only then.
@@ -59,28 +62,29 @@ impl Advising {
         situation: &Situation,
         page: &mut Page<'_>,
     ) -> Result<(), AllocError>
-        ensures { OnOk result (SaysRow situation.now self.old.owes advice.now page.old.text.items page.new.text.items) }
+        ensures { OnOk result (SaysRow situation.now self.old.says_again advice.now
+            page.old.text.items page.new.text.items) }
     {
         let alloc = page.alloc;
         let mut row = Vec::new(alloc);
-        let opponent = front(situation.opponent.as_slice());
-        let inviter = front(situation.inviter.as_slice());
+        let opponent = short_name(situation.opponent.as_slice());
+        let inviter = short_name(situation.inviter.as_slice());
         append_advice(advice, opponent, inviter, &mut row)?;
         if self.says(advice, row.as_slice()) {
             page.text.extend_from_slice(row.as_slice())?;
         }
-        self.owes = false;
+        self.says_again = false;
         self.inquired = false;
-        self.advised = row;
+        self.said_last = row;
         Ok(())
     }
 
     /// Whether this row of an advice is said now.
     fn says(&self, advice: &Advice, row: &[u8]) -> bool
-        ensures { self.now.owes ≡ true → is_asked_for advice.now.row ≡ false → result ≡ true }
+        ensures { self.now.says_again ≡ true → is_asked_for advice.now.row ≡ false → result ≡ true }
     {
         self.inquired
-            || (!advice.row.is_asked_for() && (self.owes || self.advised.as_slice() != row))
+            || (!advice.row.is_asked_for() && (self.says_again || self.said_last.as_slice() != row))
     }
 }
 
@@ -88,7 +92,7 @@ impl Advising {
 /// nothing is known if no player is listed, and whether the server had time to answer the login.
 fn aside_of(situation: &Situation, directory: &Directory, passed: Duration) -> Aside {
     Aside {
-        is_listed: situation.has_come
+        is_listed: situation.is_opponent_here
             || directory.is_empty()
             || directory.get(situation.opponent.as_slice()).is_some(),
         had_time: passed.as_secs() >= LOGIN_SECONDS,

@@ -21,7 +21,7 @@ const ORDERED: &[u8] = b"ordered: the client rolls if you may not double\n";
 
 const WITHDRAWN: &[u8] = b"withdrawn: you roll yourself\n";
 
-const UNKNOWN: &[u8] = b"unknown: help lists the words\n";
+pub(crate) const UNKNOWN: &[u8] = b"unknown: help lists the words\n";
 
 /// Shows the address of the server between these words.
 fn say_place(before: &[u8], after: &[u8], page: &mut Page<'_>) -> Result<(), AllocError> {
@@ -89,7 +89,7 @@ impl<'a> Screen<'a> {
     /// Hears a board of the user's game.
     fn hear_game(&mut self, game: &GameBoard) -> Result<(), AllocError> {
         let memory = &mut self.memory;
-        memory.advising.owes = true;
+        memory.advising.says_again = true;
         if memory.situation.asks_board {
             memory.advising.inquired = true;
         }
@@ -132,7 +132,7 @@ impl<'a> Screen<'a> {
     fn hear_sent(&mut self, command: &CommandText) -> Result<(), AllocError> {
         let bytes = command.as_bytes();
         if self.memory.situation.hear_sent(bytes) {
-            self.memory.advising.owes = true;
+            self.memory.advising.says_again = true;
         }
         self.memory.boards.asked = bytes == b"board".as_slice();
         if bytes == b"who".as_slice() {
@@ -145,7 +145,7 @@ impl<'a> Screen<'a> {
     fn say_passed(&mut self, line: &[u8]) -> Result<(), AllocError> {
         self.memory.situation.hear_passed(line);
         self.memory.watching.hear_passed(line);
-        self.memory.advising.owes = true;
+        self.memory.advising.says_again = true;
         self.page.say(b"sent as it is: ")?;
         self.page.show_row(line)
     }

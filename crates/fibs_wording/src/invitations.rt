@@ -5,18 +5,12 @@ ghost use Rattle.fibs_wording.specs.Invitations.{invitation_said, offer_said, sa
 ghost use Rattle.fibs_wording.specs.Invitations.{experience_words, invitation_words, known_words, offer_words};
 ghost use Rattle.fibs_wording.specs.Invitations.{points_words, rated_words};
 
-use fibs_environment::pieces::{append_number, front};
+use fibs_environment::pieces::{append_number, short_name};
 use fibs_fields::decimal::read_decimal;
 use fibs_fields::name::Name;
 use fibs_fields::rating::append_rating;
 use fibs_fields::split::split;
 use std::alloc::{AllocError, Global};
-
-/// How a text ends that offers a match of so many points.
-const MATCH_END: &[u8] = b" point match with you.";
-
-/// How it begins, after the name.
-const MATCH_BEGINNING: &[u8] = b"wants to play a ";
 
 /// The match that is offered.
 #[derive(Clone, Copy, Debug, PartialEq, Eq)]
@@ -40,13 +34,16 @@ pub struct Invitation<'a> {
 
 /// What the words after a name may offer.
 fn offer_in(said: &[u8]) -> Option<Offered> {
-    if said == b"wants to play an unlimited match with you.".as_slice() {
+    if said == said_before(Offered::Unlimited) {
         return Some(Offered::Unlimited);
     }
-    if said == b"wants to resume a saved match with you.".as_slice() {
+    if said == said_before(Offered::Saved) {
         return Some(Offered::Saved);
     }
-    let number = said.strip_prefix(MATCH_BEGINNING)?.strip_suffix(MATCH_END)?;
+    let any = Offered::Points(0);
+    let number = said
+        .strip_prefix(said_before(any))?
+        .strip_suffix(said_after(any))?;
     Some(Offered::Points(read_decimal(number, u64::MAX)?))
 }
 
@@ -194,7 +191,7 @@ pub fn append_invitation(
 ) -> Result<(), AllocError>
     ensures { OnOk result (text.new.items ≡ text.old.items ++ invitation_words name.now rated offered) }
 {
-    text.extend_from_slice(front(name))?;
+    text.extend_from_slice(short_name(name))?;
     append_rated(rated, text)?;
     append_offer(offered, text)
 }

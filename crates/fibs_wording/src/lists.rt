@@ -1,7 +1,7 @@
 //! A player in a row, and how many players there are.
 
 use crate::messages::append_state;
-use fibs_environment::pieces::front;
+use fibs_environment::pieces::short_name;
 use fibs_environment::shown::pad_from;
 use fibs_fields::rating::append_rating;
 use fibs_session::Player;
@@ -17,7 +17,7 @@ const RATED_COLUMNS: usize = 36;
 /// Appends the name and the rating of a player, in their columns.
 fn append_rated(player: &Player, text: &mut Vec<u8>) -> Result<(), AllocError> {
     let start = text.len();
-    text.extend_from_slice(front(player.name.as_slice()))?;
+    text.extend_from_slice(short_name(player.name.as_slice()))?;
     pad_from(start, NAME_COLUMNS, text)?;
     append_rating(text, player.rating)?;
     pad_from(start, RATED_COLUMNS, text)
@@ -27,8 +27,8 @@ fn append_rated(player: &Player, text: &mut Vec<u8>) -> Result<(), AllocError> {
 pub fn append_row(player: &Player, text: &mut Vec<u8>) -> Result<(), AllocError> {
     append_rated(player, text)?;
     append_state(
-        front(player.opponent.as_slice()),
-        front(player.watching.as_slice()),
+        short_name(player.opponent.as_slice()),
+        short_name(player.watching.as_slice()),
         player.ready,
         player.away,
         text,

@@ -1,7 +1,7 @@
 //! The words of messages.
 use crate::dates::{append_date, append_time};
 use fibs_environment::Settings;
-use fibs_environment::pieces::{append_all, append_number, break_row, front};
+use fibs_environment::pieces::{append_all, append_number, break_row, short_name};
 use fibs_environment::shown::append_shown;
 use fibs_fields::rating::append_rating;
 use fibs_messages::{Message, OwnInfo, WhoInfo};
@@ -17,9 +17,12 @@ fn append_on(settings: &[(bool, &[u8])], text: &mut Vec<u8>) -> Result<(), Alloc
     Ok(())
 }
 
-/// Appends which settings are on, first half of the alphabet.
-fn append_first_settings(info: &OwnInfo<'_>, text: &mut Vec<u8>) -> Result<(), AllocError> {
-    let settings: [(bool, &[u8]); 9] = [
+/// How many settings are in the first row.
+const FIRST_SETTINGS: usize = 9;
+
+/// Appends which settings of the user are on, by the alphabet, in two rows.
+fn append_settings(info: &OwnInfo<'_>, text: &mut Vec<u8>) -> Result<(), AllocError> {
+    let settings: [(bool, &[u8]); 16] = [
         (info.allowpip, b"allowpip"),
         (info.autoboard, b"autoboard"),
         (info.autodouble, b"autodouble"),
@@ -29,13 +32,6 @@ fn append_first_settings(info: &OwnInfo<'_>, text: &mut Vec<u8>) -> Result<(), A
         (info.crawford, b"crawford"),
         (info.double, b"double"),
         (info.greedy, b"greedy"),
-    ];
-    append_on(&settings, text)
-}
-
-/// Appends which settings are on, second half of the alphabet.
-fn append_last_settings(info: &OwnInfo<'_>, text: &mut Vec<u8>) -> Result<(), AllocError> {
-    let settings: [(bool, &[u8]); 7] = [
         (info.moreboards, b"moreboards"),
         (info.moves, b"moves"),
         (info.notify, b"notify"),
@@ -44,7 +40,10 @@ fn append_last_settings(info: &OwnInfo<'_>, text: &mut Vec<u8>) -> Result<(), Al
         (info.report, b"report"),
         (info.silent, b"silent"),
     ];
-    append_on(&settings, text)
+    text.extend_from_slice(b"On:")?;
+    append_on(&settings[..FIRST_SETTINGS], text)?;
+    text.extend_from_slice(b"\n   ")?;
+    append_on(&settings[FIRST_SETTINGS..], text)
 }
 
 /// Appends who the user is, and what he has reached.
@@ -58,10 +57,8 @@ fn append_user(info: &OwnInfo<'_>, text: &mut Vec<u8>) -> Result<(), AllocError>
 /// Appends the settings of the user.
 fn append_own(info: &OwnInfo<'_>, text: &mut Vec<u8>) -> Result<(), AllocError> {
     append_user(info, text)?;
-    text.extend_from_slice(b".\nOn:")?;
-    append_first_settings(info, text)?;
-    text.extend_from_slice(b"\n   ")?;
-    append_last_settings(info, text)
+    text.extend_from_slice(b".\n")?;
+    append_settings(info, text)
 }
 
 /// What a player is who neither plays nor watches.
@@ -105,34 +102,32 @@ pub fn append_state(
 
 /// Appends a player in one row: at most the first 24 bytes of a name.
 pub fn append_player(info: &WhoInfo<'_>, text: &mut Vec<u8>) -> Result<(), AllocError> {
-    append_all(&[front(info.name.bytes()), b" ("], text)?;
+    append_all(&[short_name(info.name.bytes()), b" ("], text)?;
     append_rating(text, info.rating)?;
     text.extend_from_slice(b"): ")?;
     append_state(
-        front(info.opponent.bytes()),
-        front(info.watching.bytes()),
+        short_name(info.opponent.bytes()),
+        short_name(info.watching.bytes()),
         info.ready,
         info.away,
         text,
     )
 }
 
-/// Appends a line of talk: when, if that is known, who, and what.
+/// Appends a line of talk: when, if that is known, and who says to whom what.
 fn append_talk(
-    who: &[u8],
-    verb: &[u8],
-    whom: &[u8],
-    said: &[u8],
+    talk: [&[u8]; 4],
     now: Option<u64>,
     settings: &Settings<'_>,
     text: &mut Vec<u8>,
 ) -> Result<(), AllocError> {
+    let [who, says, whom, what] = talk;
     if let Some(now) = now {
         append_time(now, &settings.zone, text)?;
         text.extend_from_slice(b" ")?;
     }
-    append_all(&[who, verb, whom, b": "], text)?;
-    append_shown(said, settings.utf8, text)
+    append_all(&[who, says, whom, b": "], text)?;
+    append_shown(what, settings.utf8, text)
 }
 
 /// Appends that someone comes or goes, in the server's words, if it has some.
@@ -189,7 +184,7 @@ fn append_welcome(
     text: &mut Vec<u8>,
 ) -> Result<(), AllocError> {
     let start = text.len();
-    let greeting: [&[u8]; 3] = [b"Welcome, ", front(name), b". Last login: "];
+    let greeting: [&[u8]; 3] = [b"Welcome, ", short_name(name), b". Last login: "];
     append_dated(&greeting, last_login, b",", settings, text)?;
     let comma = text.len();
     text.extend_from_slice(b" from ")?;
@@ -204,24 +199,11 @@ fn append_delivery(words: &[u8], name: &[u8], text: &mut Vec<u8>) -> Result<(), 
     append_all(&[words, name, b"."], text)
 }
 
-/// The verb of talk; nothing if a message is not talk.
-fn verb_of(message: &Message<'_>) -> &'static [u8] {
-    match message {
-        Message::Says { .. } => b" says",
-        Message::Shouts { .. } => b" shouts",
-        Message::Whispers { .. } => b" whispers",
-        Message::Kibitzes { .. } => b" kibitzes",
-        Message::YouSay { .. } => b" say to ",
-        Message::YouShout { .. } => b" shout",
-        Message::YouWhisper { .. } => b" whisper",
-        Message::YouKibitz { .. } => b" kibitz",
-        _ => b"",
-    }
-}
-
-/// Appends a message that is not talk.
-fn append_notice(
+/// Appends a message in words, without its line end. The time now is in seconds since 1970; None if it is not when the
+/// message came.
+pub fn append_message(
     message: &Message<'_>,
+    now: Option<u64>,
     settings: &Settings<'_>,
     text: &mut Vec<u8>,
 ) -> Result<(), AllocError> {
@@ -253,56 +235,34 @@ fn append_notice(
         Message::MessageSaved { name } => {
             append_delivery(b"Your message is kept for ", name.bytes(), text)
         }
-        Message::Says { .. }
-        | Message::Shouts { .. }
-        | Message::Whispers { .. }
-        | Message::Kibitzes { .. }
-        | Message::YouSay { .. }
-        | Message::YouShout { .. }
-        | Message::YouWhisper { .. }
-        | Message::YouKibitz { .. } => Ok(()),
-    }
-}
-
-/// Appends a message in words, without its line end. The time now is in seconds since 1970; None if it is not when the
-/// message came.
-pub fn append_message(
-    message: &Message<'_>,
-    now: Option<u64>,
-    settings: &Settings<'_>,
-    text: &mut Vec<u8>,
-) -> Result<(), AllocError> {
-    match message {
-        Message::Says { name, text: said }
-        | Message::Shouts { name, text: said }
-        | Message::Whispers { name, text: said }
-        | Message::Kibitzes { name, text: said } => {
-            append_talk(
-                name.bytes(),
-                verb_of(message),
-                b"",
-                said,
-                now,
-                settings,
-                text,
-            )
+        Message::Says { name, text: said } => {
+            append_talk([name.bytes(), b" says", b"", said], now, settings, text)
+        }
+        Message::Shouts { name, text: said } => {
+            append_talk([name.bytes(), b" shouts", b"", said], now, settings, text)
+        }
+        Message::Whispers { name, text: said } => {
+            append_talk([name.bytes(), b" whispers", b"", said], now, settings, text)
+        }
+        Message::Kibitzes { name, text: said } => {
+            append_talk([name.bytes(), b" kibitzes", b"", said], now, settings, text)
         }
         Message::YouSay { name, text: said } => {
             append_talk(
-                b"You",
-                verb_of(message),
-                name.bytes(),
-                said,
+                [b"You", b" say to ", name.bytes(), said],
                 now,
                 settings,
                 text,
             )
         }
-        Message::YouShout { text: said }
-        | Message::YouWhisper { text: said }
-        | Message::YouKibitz { text: said } => {
-            append_talk(b"You", verb_of(message), b"", said, now, settings, text)
+        Message::YouShout { text: said } => {
+            append_talk([b"You", b" shout", b"", said], now, settings, text)
         }
-        _ => append_notice(message, settings, text),
+        Message::YouWhisper { text: said } => {
+            append_talk([b"You", b" whisper", b"", said], now, settings, text)
+        }
+        Message::YouKibitz { text: said } => {
+            append_talk([b"You", b" kibitz", b"", said], now, settings, text)
+        }
     }
 }

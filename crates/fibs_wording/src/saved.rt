@@ -2,7 +2,8 @@
 ghost use Rattle.std.specs.Prelude.{◌≡◌, ◌++◌, OnOk};
 ghost use Rattle.fibs_wording.specs.SavedMatches.{here_words, length_words, match_words, score_words};
 
-use fibs_environment::pieces::{append_number, front};
+use fibs_boards::fields::UNLIMITED;
+use fibs_environment::pieces::{append_number, short_name};
 use fibs_fields::decimal::read_decimal;
 use fibs_fields::name::Name;
 use fibs_fields::split::split;
@@ -111,7 +112,7 @@ fn length_in(word: &[u8]) -> Option<Option<u64>> {
     }
     match points_in(word) {
         // as a board has it
-        Some(9999) => Some(None),
+        Some(points) if points == u64::from(UNLIMITED.unsigned_abs()) => Some(None),
         Some(points) => Some(Some(points)),
         None => None,
     }
@@ -263,6 +264,6 @@ pub fn append_here(saved: &SavedMatch, text: &mut Vec<u8>) -> Result<(), AllocEr
     ensures { OnOk result (text.new.items ≡ text.old.items
         ++ here_words saved.now.name.items saved.now.own saved.now.other saved.now.length) }
 {
-    text.extend_from_slice(front(saved.name.as_slice()))?;
+    text.extend_from_slice(short_name(saved.name.as_slice()))?;
     append_match(saved.own, saved.other, saved.length, text)
 }

@@ -18,8 +18,8 @@ const TALK: [&[u8]; 7] = [
 /// The words that names follow.
 const NAMING: [&[u8]; 4] = [b"invite", b"join", b"gag", b"ungag"];
 
-/// What follows the spaces at the front.
-fn without_front(line: &[u8]) -> &[u8] {
+/// What follows the spaces before the first word.
+fn from_first_word(line: &[u8]) -> &[u8] {
     line.trim_start_with(|c| c == ' ')
 }
 
@@ -124,7 +124,7 @@ fn append_plain(
 }
 
 /// Appends the spelling of a line that the client does not know. What is sent to people stays as it is, but for the
-/// spaces at its front and the case of its first word.
+/// spaces before it and the case of its first word.
 ///
 /// Errors: if memory runs out.
 pub fn append_spelled(
@@ -133,7 +133,7 @@ pub fn append_spelled(
     line: &[u8],
     text: &mut Vec<u8>,
 ) -> Result<(), AllocError> {
-    let line = without_front(line);
+    let line = from_first_word(line);
     let (word, rest) = split(line, b' ');
     let small = word.to_ascii_lowercase(alloc)?;
     let word = long_word(small.as_slice());
