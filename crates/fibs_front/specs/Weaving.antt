@@ -2,8 +2,8 @@
 use Rattle.std.specs.Prelude.{◌≡◌, ◌<◌, ℕ, List, [], ◌∷◌, ◌++◌, length, map, Option, Some, None, ⊤}
 use Rattle.std.specs.Str.Lines.{lines}
 use Rattle.fibs_front.specs.TypedLines.{typed_line, after_typed_line, kept_typed}
-use Rattle.fibs_front.specs.declared.typed_lines.Next.{Next}
-use Rattle.fibs_front.specs.declared.typed_lines.Next.TheVariants as N
+use Rattle.fibs_front.specs.declared.typed.typed_lines.Next.{Next}
+use Rattle.fibs_front.specs.declared.typed.typed_lines.Next.TheVariants as N
 
 -- one thing that comes
 pub data NextValue : Type 0 where

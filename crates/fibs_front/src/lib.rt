@@ -1,6 +1,7 @@
-//! Front ends: what happens is reported to each, and each says what a typed line asks for. The plain account is one.
-//! How typed lines are read, portion by portion, and that the server may speak between two of them, is the same for
-//! all.
+//! Front ends, to which what happens is reported.
+//!
+//! Each says what a typed line asks for. The plain account is one. How typed lines are read, and that the server may
+//! speak between two of them, is in a folder of its own.
 #![tactic(auto)]
 
 pub mod fault;
@@ -10,8 +11,8 @@ pub mod laws;
 pub mod plain;
 pub mod printing;
 pub mod said;
-pub mod typed_line;
-pub mod typed_lines;
-pub mod watch;
+mod typed;
 pub mod wish;
 pub mod words;
+
+pub use typed::{typed_line, typed_lines, watch};

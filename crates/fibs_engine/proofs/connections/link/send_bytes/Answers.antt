@@ -4,7 +4,7 @@ use Rattle.std.specs.Io.KnownBytes.{Appends}
 use Rattle.std.proofs.KnownBytes.{Appends-nil, Appends-trans, Keeps-refl, Keeps-trans}
 use Rattle.fibs_engine.proofs.WriteLemmas.{front_more}
 use Rattle.fibs_engine.proofs.WriteLemmas.{took_nothing, failed_write}
-use Rattle.fibs_engine.proofs.link.send_bytes.Goals as goal
+use Rattle.fibs_engine.proofs.connections.link.send_bytes.Goals as goal
 
 pub loop-rest-init : goal.loop-rest-init
 loop-rest-init g c = ([], refl, Appends-nil _, Keeps-refl _)

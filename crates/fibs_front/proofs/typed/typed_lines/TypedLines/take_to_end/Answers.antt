@@ -3,7 +3,7 @@ use Rattle.std.proofs.Common.{◌∙◌}
 use Rattle.fibs_fields.specs.Split.{before, after, seen}
 use Rattle.fibs_front.specs.TypedLines.{rest_or_nothing}
 use Rattle.fibs_front.proofs.TypedLemmas.Cuts.{window-rest, window-fits, take-none}
-use Rattle.fibs_front.proofs.typed_lines.TypedLines.take_to_end.Goals as goal
+use Rattle.fibs_front.proofs.typed.typed_lines.TypedLines.take_to_end.Goals as goal
 
 pub invariant_of-self-in-Some : goal.invariant_of-self-in-Some
 invariant_of-self-in-Some c =

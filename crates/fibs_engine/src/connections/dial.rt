@@ -2,7 +2,7 @@
 
 ghost use Rattle.std.specs.Prelude.{◌≡◌, ◌≢◌};
 
-use crate::alive::keep_alive;
+use super::alive::keep_alive;
 use crate::link::Link;
 use std::io;
 use std::io::ErrorKind;

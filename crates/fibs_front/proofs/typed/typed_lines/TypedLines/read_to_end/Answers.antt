@@ -2,7 +2,7 @@ use Rattle.std.proofs.Common.{◌≡◌, ℕ, List, Option, sym, ap, ◌∙◌}
 use Rattle.fibs_front.specs.TypedReads.{ahead, TypedValue, SpendsReads}
 use Rattle.fibs_front.proofs.TypedLemmas.Parts.{line_ended, line_last, line_goes_on}
 use Rattle.fibs_front.proofs.TypedLemmas.Spent.{spends_kept, spends_more}
-use Rattle.fibs_front.proofs.typed_lines.TypedLines.read_to_end.Goals as goal
+use Rattle.fibs_front.proofs.typed.typed_lines.TypedLines.read_to_end.Goals as goal
 
 -- the reads so far, a call that makes none, and one more
 spent : (a b c d : TypedValue) (left mid still : Option (List ℕ)) → SpendsReads a b left mid → c.reads ≡ b.reads

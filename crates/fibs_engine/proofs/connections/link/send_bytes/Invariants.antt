@@ -1,6 +1,6 @@
 use Rattle.std.proofs.Common.{◌≡◌, ◌++◌, ℕ, List, length}
 use Rattle.std.specs.Io.KnownBytes.{Appends, Keeps}
-use Rattle.fibs_engine.proofs.link.send_bytes.Given as goal
+use Rattle.fibs_engine.proofs.connections.link.send_bytes.Given as goal
 
 -- a front is written, and the rest is left
 abbrev pub invariant-loop-rest : goal.invariant-loop-rest

@@ -1,6 +1,6 @@
 use Rattle.fibs_front.specs.TypedReads.{ahead, FitsDevice, SpendsReads}
 use Rattle.fibs_front.proofs.TypedLemmas.Parts.{Parts}
-use Rattle.fibs_front.proofs.typed_lines.TypedLines.read_to_end.Given as goal
+use Rattle.fibs_front.proofs.typed.typed_lines.TypedLines.read_to_end.Given as goal
 
 -- of what was to come a part of the line was taken, and no more than the reads may give that were made
 abbrev pub invariant-loop-line : goal.invariant-loop-line
