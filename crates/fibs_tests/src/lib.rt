@@ -22,9 +22,7 @@ mod play_loop;
 #[cfg(test)]
 mod plays;
 #[cfg(test)]
-mod refusals;
-#[cfg(test)]
-mod refused_notes;
+mod positions;
 #[cfg(test)]
 mod replay;
 #[cfg(test)]
@@ -33,5 +31,7 @@ mod show;
 mod terminal;
 #[cfg(test)]
 mod turns;
+#[cfg(test)]
+mod watch;
 #[cfg(test)]
 mod world;

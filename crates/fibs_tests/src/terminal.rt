@@ -1,6 +1,5 @@
-//! A terminal: a conversation if memory is refused, and what is ready first.
+//! A terminal: a conversation if memory is refused.
 
 mod conversations;
 mod lines;
 mod seats;
-mod watching;
