@@ -46,7 +46,8 @@ abbrev pub Extent : Progress → List ℕ → List ℕ → List ℕ → Type 0
 Extent Whole stream fed rest = rest ≡ []
 Extent Broken stream fed rest = EndsALine stream fed × (0 < length fed)
 
--- a front of these bytes, up to there, was fed to a client reached by t, and what its lines call for was done so
+-- a front of these bytes was fed to a client reached by t, all of them or up to the end of a line; `Does` says how what
+-- its lines call for was done
 pub record Talked (t : Talk) (new : ClientValue) (bytes : List ℕ) (far : Progress) (Does : List Act → Type 0) :
     Type 0 where
   pub fed : List ℕ
