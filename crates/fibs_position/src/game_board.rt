@@ -1,14 +1,16 @@
 //! A board of a game in which the user plays, with its position.
 
-ghost use Rattle.std.specs.Prelude.{◌≡◌, ◌↔◌, IsOk, is_ok, IfOk, Err, true};
+ghost use Rattle.std.specs.Prelude.{◌≡◌, ◌↔◌, IsOk, is_ok, IfOk, Err, true, not, None, Some, if◌then◌else◌};
 ghost use Rattle.fibs_boards.specs.StoredBoard.{fields_of};
 ghost use Rattle.fibs_position.specs.DirectionOf.{direction_of};
 ghost use Rattle.fibs_position.specs.First.{IsFirst};
+ghost use Rattle.fibs_position.specs.GamePart.{same_game};
 ghost use Rattle.fibs_position.specs.GoodBoard.{IsGood, HasFault, faults, good};
 ghost use Rattle.fibs_position.specs.Phases.{phase_of, IsPhase};
 ghost use Rattle.fibs_position.specs.PositionValue.{position_of, position_value};
 
 use crate::direction::Direction;
+use crate::game_part::differs;
 use crate::phase::Phase;
 use crate::position::Position;
 use crate::position_fault::PositionFault;
@@ -40,6 +42,23 @@ impl GameBoard {
                 position,
             }),
         }
+    }
+
+    /// Has the next board in place of this one, and says whether the two differ. None if that has no position: then it
+    /// stays as it was.
+    #[inline(always)]
+    pub fn follow(&mut self, next: &Board) -> Option<bool>
+        ensures board { game_of self.new ≡ if good (fields_of next.now) then fields_of next.now else game_of self.old }
+        ensures differs { result ≡ if good (fields_of next.now)
+            then Some (not (same_game (game_of self.old) (fields_of next.now))) else None }
+    {
+        let Ok(position) = Position::of(next) else {
+            return None;
+        };
+        let differs = differs(&self.board, next);
+        self.board = *next;
+        self.position = position;
+        Some(differs)
     }
 
     /// The board.

@@ -1,18 +1,17 @@
 //! What a line says, by the session's fields.
 
-ghost use Rattle.std.specs.Prelude.{◌≡◌, true, false, None, map, option_map};
+ghost use Rattle.std.specs.Prelude.{◌≡◌, true, false, None, Some, map, option_map, if◌then◌else◌};
 ghost use Rattle.fibs_lines.specs.Lines.{value_of};
 ghost use Rattle.fibs_messages.specs.Message.{message_of};
 ghost use Rattle.fibs_messages.specs.Line.{reading_of};
 ghost use Rattle.fibs_boards.specs.StoredBoard.{fields_of};
 ghost use Rattle.fibs_position.specs.DecisionValue.{roll};
 ghost use Rattle.fibs_position.specs.DirectionOf.{direction_of};
-ghost use Rattle.fibs_position.specs.GameOf.{game_of};
+ghost use Rattle.fibs_position.specs.GoodBoard.{good};
 ghost use Rattle.fibs_commands.specs.Commands.{command_of};
-ghost use Rattle.fibs_history.specs.Words.{one_if};
 ghost use Rattle.fibs_messages.specs.declared.message.Message.TheVariants.{OwnInfo as TheOwnInfo};
-ghost use Rattle.fibs_session.specs.Calls.FieldSteps.{message_fields, with_board, confirmed_of};
-ghost use Rattle.fibs_session.specs.Calls.FieldSteps.{line_fields, unheard, with_roll, due_of};
+ghost use Rattle.fibs_session.specs.Calls.FieldSteps.{message_fields, board_fields, with_shown, differs_from, settled};
+ghost use Rattle.fibs_session.specs.Calls.FieldSteps.{line_fields, unheard, with_roll};
 ghost use Rattle.fibs_session.specs.Calls.SessionValue.{SessionValue};
 ghost use Rattle.fibs_history.specs.Hearing.{initial_commands, line_reading};
 ghost use Rattle.fibs_commands.specs.TextOf.{text_of};
@@ -26,7 +25,7 @@ use fibs_commands::{
 };
 use fibs_lines::Line;
 use fibs_messages::{Message, OwnInfo, Reading, is_board_line, message_number, read};
-use fibs_position::{Decision, GameBoard, differs};
+use fibs_position::{Decision, GameBoard};
 
 /// What a session says to a line: the commands that are to be sent, the decision that is confirmed, and whether the
 /// standing order has rolled.
@@ -62,14 +61,18 @@ pub(crate) fn read_line<'a>(line: &Line<'a>) -> Reading<'a>
     read(line.bytes)
 }
 
-/// Whether a line is a message that says nothing to a session: each but message 1 and message 2. Its fields are not
-/// read.
+/// Whether a line says nothing to a session: one that was cut, and each message but message 1 and message 2. Its fields
+/// are not read.
 #[inline(always)]
 pub(crate) fn is_unheard(line: &Line<'_>) -> bool
-    ensures { result ≡ true → (v : SessionValue) → line_fields v (line_reading (value_of line.now)) ≡ unheard v }
+    ensures says { result ≡ true → (v : SessionValue) → line_fields v (line_reading (value_of line.now)) ≡ unheard v }
+    ensures whole { result ≡ false → line.now.cut ≡ false }
 {
+    if line.cut {
+        return true;
+    }
     // A board line is the longest, and there is no number to look for.
-    if line.cut || is_board_line(line.bytes) {
+    if is_board_line(line.bytes) {
         return false;
     }
     match message_number(line.bytes) {
@@ -96,20 +99,35 @@ fn first_commands(info: &OwnInfo<'_>) -> ArrayVec<AnswerText, 3>
 impl Session {
     ghost use Rattle.fibs_session.specs.Calls.SessionOf.{session_of, ask_of, texts_of};
 
-    /// A board that has a position was heard.
+    /// Has a board in place of the one shown before, and says whether the two differ. None if it has no position.
     #[inline(always)]
-    fn note_board(&mut self, heard: &GameBoard) -> Option<Outstanding>
-        ensures fields { session_of self.new ≡ with_board (session_of self.old) (game_of heard.now) }
-        ensures result { option_map ask_of result ≡ confirmed_of (session_of self.old) (game_of heard.now) }
+    fn show(&mut self, board: &Board) -> Option<bool>
+        ensures fields { session_of self.new ≡ with_shown (session_of self.old) (fields_of board.now) }
+        ensures differs { result ≡ if good (fields_of board.now)
+            then Some (differs_from (session_of self.old).shown (fields_of board.now)) else None }
     {
-        let mut confirmed = None;
-        if let Some(shown) = &self.shown {
-            if differs(shown.board(), heard.board()) {
-                confirmed = self.waiting;
-                self.waiting = None;
+        match &mut self.shown {
+            Some(shown) => shown.follow(board),
+            None => {
+                let Ok(first) = GameBoard::of(board) else {
+                    return None;
+                };
+                self.shown = Some(first);
+                Some(false)
             }
         }
-        self.shown = Some(*heard);
+    }
+
+    /// A board is shown: if it differs from the one before, a decision that waits is confirmed.
+    fn settle(&mut self, differs: bool) -> Option<Outstanding>
+        ensures fields { session_of self.new ≡ settled (session_of self.old) differs }
+        ensures result { option_map ask_of result ≡ if differs then (session_of self.old).waiting else None }
+    {
+        if !differs {
+            return None;
+        }
+        let confirmed = self.waiting;
+        self.waiting = None;
         confirmed
     }
 
@@ -152,24 +170,24 @@ impl Session {
         roll_text()
     }
 
-    /// A board that has a position was heard. It is shown and confirms, and only then is the standing order asked: a
+    /// A board was heard. If it has a position it is shown and confirms, and only then is the standing order asked: a
     /// decision that it confirms no longer waits.
     #[inline(always)]
-    fn note_shown(&mut self, heard: &GameBoard) -> Reply
-        ensures fields { let v = with_board (session_of self.old) (game_of heard.now) in
-            session_of self.new ≡ with_roll v (game_of heard.now) (due_of v (game_of heard.now)) }
-        ensures send { texts_of result.send.items ≡ one_if result.rolled
-            (command_of (direction_of (game_of heard.now)) roll) }
+    fn note_board(&mut self, board: &Board) -> Reply
+        ensures fields { session_of self.new ≡ (board_fields (session_of self.old) (fields_of board.now)).session }
+        ensures send { texts_of result.send.items ≡ (board_fields (session_of self.old) (fields_of board.now)).send }
         ensures confirmed { option_map ask_of result.confirmed
-            ≡ confirmed_of (session_of self.old) (game_of heard.now) }
-        ensures rolled { result.rolled
-            ≡ due_of (with_board (session_of self.old) (game_of heard.now)) (game_of heard.now) }
+            ≡ (board_fields (session_of self.old) (fields_of board.now)).confirmed }
+        ensures rolled { result.rolled ≡ (board_fields (session_of self.old) (fields_of board.now)).rolled }
     {
-        let confirmed = self.note_board(heard);
-        let rolled = self.is_due(heard);
+        let Some(differs) = self.show(board) else {
+            return Reply::of(ArrayVec::new());
+        };
+        let confirmed = self.settle(differs);
+        let rolled = self.is_due_now();
         let mut send = ArrayVec::new();
         if rolled {
-            send.push(self.roll_on(heard.board()));
+            send.push(self.roll_on(board));
         }
         Reply {
             send,
@@ -193,12 +211,7 @@ impl Session {
         }
         match reading {
             Reading::Numbered(message) => Reply::of(self.note_message(message)),
-            Reading::Board(board) => {
-                let Ok(heard) = GameBoard::of(board) else {
-                    return Reply::of(ArrayVec::new());
-                };
-                self.note_shown(&heard)
-            }
+            Reading::Board(board) => self.note_board(board),
             Reading::Text(_) | Reading::Malformed { .. } => Reply::of(ArrayVec::new()),
         }
     }

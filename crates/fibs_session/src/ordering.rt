@@ -3,7 +3,8 @@
 ghost use Rattle.std.specs.Prelude.{◌≡◌, IsErr, true, false};
 ghost use Rattle.std.specs.Result.{result_err};
 ghost use Rattle.fibs_position.specs.GameOf.{game_of};
-ghost use Rattle.fibs_session.specs.Calls.FieldSteps.{due_of, order_refusal_of, withdraw_refusal_of, with_order};
+ghost use Rattle.fibs_session.specs.Calls.FieldSteps.{due_of, due_now, order_refusal_of, withdraw_refusal_of};
+ghost use Rattle.fibs_session.specs.Calls.FieldSteps.{with_order};
 
 use crate::session::Session;
 use fibs_boards::fields::MAY_DOUBLE;
@@ -61,6 +62,16 @@ impl Session {
         match shown.phase() {
             Phase::RollOrDouble => self.board_for(&Decision::Roll).is_ok(),
             _ => false,
+        }
+    }
+
+    /// Whether the board that is shown makes it due; not if none is.
+    pub(crate) fn is_due_now(&self) -> bool
+        ensures { result ≡ due_now (session_of self.now).shown (session_of self.now) }
+    {
+        match &self.shown {
+            None => false,
+            Some(shown) => self.is_due(shown),
         }
     }
 }

@@ -85,6 +85,19 @@ still_waiting (Some a) b w = if same_game a b then w else None
 abbrev pub confirmed_of : SessionValue → BoardFields → Option Ask
 confirmed_of v b = if is_some (still_waiting v.shown b v.waiting) then None else v.waiting
 
+-- whether a board differs from the one that is shown
+abbrev pub differs_from : Option BoardFields → BoardFields → Bool
+differs_from None b = false
+differs_from (Some a) b = not (same_game a b)
+
+-- a board is shown, if it has a position
+abbrev pub with_shown : SessionValue → BoardFields → SessionValue
+with_shown v b = if good b then record v { shown = Some b } else v
+
+-- a decision no longer waits, if the board that is shown differs from the one before
+abbrev pub settled : SessionValue → Bool → SessionValue
+settled v differs = record v { waiting = if differs then None else v.waiting }
+
 abbrev pub with_board : SessionValue → BoardFields → SessionValue
 with_board v b = record v { shown = Some b; waiting = still_waiting v.shown b v.waiting }
 
@@ -99,6 +112,11 @@ answer_of v d =
 unfoldable pub due_of : SessionValue → BoardFields → Bool
 due_of v b =
     v.ordered && (int_eq (field_of b 39) (pos 0) && (is_to_roll (phase_of b) && is_none (answer_of v roll)))
+
+-- the same for the board that it shows
+abbrev pub due_now : Option BoardFields → SessionValue → Bool
+due_now None v = false
+due_now (Some b) v = due_of v b
 
 -- a roll is sent on the board that is shown
 abbrev pub with_roll : SessionValue → BoardFields → Bool → SessionValue

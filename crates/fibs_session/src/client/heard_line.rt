@@ -7,12 +7,13 @@ ghost use Rattle.fibs_session.specs.Calls.Doing.{SessionHears};
 ghost use Rattle.fibs_session.specs.declared.client.owned_reading.OwnedReading.TheVariants.{Numbered};
 
 use super::owned_reading::OwnedReading;
-use crate::hearing::is_unheard;
+use crate::hearing::{Reply, is_unheard};
 use crate::session::Session;
-use crate::taken::{Outstanding, Taken};
+use crate::taken::Outstanding;
 use arrayvec::ArrayVec;
 use fibs_commands::AnswerText;
 use fibs_lines::Line;
+use fibs_messages::read;
 use fibs_position::laws;
 
 /// The answer to a line, without the line.
@@ -39,13 +40,13 @@ impl Answer {
         if is_unheard(line) {
             return Answer::nothing();
         }
-        let Taken {
-            line: _,
-            reading,
+        // A reading that comes by one way alone is nowhere copied.
+        let reading = read(line.bytes);
+        let Reply {
             send,
             confirmed,
             rolled,
-        } = session.line(line);
+        } = session.note_line(&reading);
         let reading = OwnedReading::of(&reading);
         Answer {
             reading,
@@ -55,7 +56,7 @@ impl Answer {
         }
     }
 
-    /// The answer to a message that is answered by nothing. The message is read when it is lent.
+    /// The answer to a line that is answered by nothing. The line is read when it is lent.
     pub(super) fn nothing() -> Answer
         ensures reading { result.reading ≡ Numbered }
         ensures send { result.send.items ≡ [] }

@@ -12,7 +12,7 @@ use fibs_lines::Line;
 use fibs_messages::{Fault, Reading, laws};
 
 /// A reading that borrows nothing. A message borrows from its line: it is read when the line is lent, most messages
-/// only there.
+/// only there, and so is a line that was cut.
 #[derive(Clone, Copy)]
 pub(crate) enum OwnedReading {
     Numbered,

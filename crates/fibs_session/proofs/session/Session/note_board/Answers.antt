@@ -1,52 +1,57 @@
-use Rattle.std.proofs.Common.{◌≡◌, Bool, true, false, not, cond, Option, None, Some, is_some, refl, sym, ◌∙◌, subst}
-use Rattle.std.proofs.lemmas.Bool.{false≢true}
-use Rattle.fibs_boards.specs.Board.{BoardFields}
-use Rattle.fibs_position.specs.GamePart.{same_game}
-use Rattle.fibs_session.specs.Calls.SessionOf.{session_of}
+use Rattle.std.proofs.Common.{◌≡◌, sym, ap, ◌∙◌, rules}
+use Rattle.fibs_boards.specs.StoredBoard.{fields_of}
+use Rattle.fibs_position.specs.DecisionValue.{roll}
+use Rattle.fibs_position.specs.DirectionOf.{direction_of}
+use Rattle.fibs_commands.specs.Commands.{command_of}
+use Rattle.fibs_history.specs.Words.{one_if}
+use Rattle.fibs_session.specs.Calls.FieldSteps.{with_roll}
+use Rattle.fibs_session.specs.Calls.SessionOf.{session_of, texts_of}
+use Rattle.fibs_session.proofs.Calls.ShownBoards as B
 use Rattle.fibs_session.proofs.session.Session.note_board.Goals as goal
-use Rattle.fibs_session.proofs.session.Session.note_board.Goals.{in-Some+then-differs, in-Some+else-differs, in_default}
-
--- two boards differ as those of two games do that have the same fields
-of_games : (a b x y : BoardFields) (differs : Bool) → a ≡ x → b ≡ y → differs ≡ not (same_game a b)
-    → differs ≡ not (same_game x y)
-of_games a b x y differs e f is-not = subst (λ z. differs ≡ not (same_game x z)) f
-    (subst (λ z. differs ≡ not (same_game z b)) e is-not)
-
-unlike : (same differs : Bool) → differs ≡ not same → differs ≡ true → same ≡ false
-unlike false differs is-not does = refl
-unlike true differs is-not does = absurd (false≢true (sym is-not ∙ does))
-
-alike : (same differs : Bool) → differs ≡ not same → differs ≡ false → same ≡ true
-alike true differs is-not does-not = refl
-alike false differs is-not does-not = absurd (false≢true (sym does-not ∙ is-not))
-
--- a decision that goes on waiting is not confirmed, and none can be if none waits
-goes_on : {A : Type 0} (waiting : Option A) → None ≡ cond (is_some waiting) None waiting
-goes_on None = refl
-goes_on (Some asked) = refl
+use Rattle.fibs_session.proofs.session.Session.note_board.Goals.{then-rolled, else-rolled}
 
 pub returns-clause-fields : goal.returns-clause-fields
-returns-clause-fields c = elim c.match-self.branch [
-  | in-Some+then-differs w ↦
-      rw w.self-is (rw w.in-Some.is (rw (unlike _ _
-      (of_games _ _ _ _ _ w.board.ensures.value w.board-in-Some.ensures.value w.differs.ensures.test)
-      w.if-differs.true) refl))
-  | in-Some+else-differs w ↦
-      rw w.self-is (rw w.in-Some.is (rw (alike _ _
-      (of_games _ _ _ _ _ w.board.ensures.value w.board-in-Some.ensures.value w.differs.ensures.test)
-      w.if-differs.false) refl))
-  | in_default w ↦ rw w.self-is (rw w.in_default.is refl)
-]
+returns-clause-fields c =
+    let is =
+    B.is_shown (session_of c.args.self.now) (session_of c.show.new.self) (session_of c.settle-confirmed.new.self)
+    (fields_of c.args.board.now) c.in-Some.differs c.in-Some.ensures.differs c.in-Some.ensures.fields
+    c.settle-confirmed.ensures.fields in
+    let v = session_of c.args.self.now in
+    let after = session_of c.settle-confirmed.new.self in
+    let b = fields_of c.args.board.now in
+    let r = c.is_due_now-rolled.result in
+    let due = c.is_due_now-rolled.ensures in
+    elim c.if-rolled.branch [
+      | then-rolled w ↦
+          rw w.self-is (B.rolled_on v after _ b r is.0 is.1 due
+          (w.roll_on.ensures.fields ∙ ap (with_roll after b) (sym w.if-rolled.true)))
+      | else-rolled w ↦
+          rw w.self-is (B.rolled_on v after _ b r is.0 is.1 due
+          (ap (with_roll after b) (sym w.if-rolled.false)))
+    ]
 
-pub returns-clause-result : goal.returns-clause-result
-returns-clause-result c = let waiting = (session_of c.args.self.now).waiting in elim c.match-self.branch [
-  | in-Some+then-differs w ↦
-      rw w.confirmed-is (rw w.in-Some.is (rw (unlike _ _
-      (of_games _ _ _ _ _ w.board.ensures.value w.board-in-Some.ensures.value w.differs.ensures.test)
-      w.if-differs.true) refl))
-  | in-Some+else-differs w ↦
-      rw w.confirmed-is (rw w.in-Some.is (rw (alike _ _
-      (of_games _ _ _ _ _ w.board.ensures.value w.board-in-Some.ensures.value w.differs.ensures.test)
-      w.if-differs.false) (goes_on waiting)))
-  | in_default w ↦ rw w.confirmed-is (rw w.in_default.is (goes_on waiting))
-]
+pub returns-clause-send : goal.returns-clause-send
+returns-clause-send c =
+    let is =
+    B.is_shown (session_of c.args.self.now) (session_of c.show.new.self) (session_of c.settle-confirmed.new.self)
+    (fields_of c.args.board.now) c.in-Some.differs c.in-Some.ensures.differs c.in-Some.ensures.fields
+    c.settle-confirmed.ensures.fields in
+    let r = c.is_due_now-rolled.result in
+    let b = fields_of c.args.board.now in
+    let sent : texts_of c.if-rolled.send.items ≡ one_if r (command_of (direction_of b) roll) = search rules in
+    B.sends (session_of c.args.self.now) (session_of c.settle-confirmed.new.self) b r _ is.0 is.1
+    c.is_due_now-rolled.ensures sent
+
+pub returns-clause-confirmed : goal.returns-clause-confirmed
+returns-clause-confirmed c =
+    B.confirms (session_of c.args.self.now) (session_of c.show.new.self) (fields_of c.args.board.now)
+    c.in-Some.differs _ c.in-Some.ensures.differs c.in-Some.ensures.fields c.settle-confirmed.ensures.result
+
+pub returns-clause-rolled : goal.returns-clause-rolled
+returns-clause-rolled c =
+    let is =
+    B.is_shown (session_of c.args.self.now) (session_of c.show.new.self) (session_of c.settle-confirmed.new.self)
+    (fields_of c.args.board.now) c.in-Some.differs c.in-Some.ensures.differs c.in-Some.ensures.fields
+    c.settle-confirmed.ensures.fields in
+    B.rolls (session_of c.args.self.now) (session_of c.settle-confirmed.new.self) (fields_of c.args.board.now)
+    c.is_due_now-rolled.result is.0 is.1 c.is_due_now-rolled.ensures
