@@ -12,6 +12,7 @@ ghost use Rattle.fibs_boards.specs.Board.{BoardFields, IsBoard, Fit, field_value
 ghost use Rattle.fibs_boards.specs.Board.{field_of, can_have, with_field};
 
 use crate::field_ranges::can_have;
+use crate::numbers::Numbers;
 use crate::print::{LINE_LEN, write_board};
 use crate::read::read_board;
 use crate::stored_name::StoredName;
@@ -32,7 +33,7 @@ use std::alloc::AllocError;
 pub struct Board {
     player: StoredName,
     opponent: StoredName,
-    numbers: [i32; 50],
+    numbers: Numbers,
     pub ghost valid: { IsBoard (parts player opponent numbers) } by { IsBoard-prop (parts player opponent numbers) },
 }
 
@@ -48,7 +49,7 @@ impl Board {
         Board {
             player: StoredName::new(player.bytes()),
             opponent: StoredName::new(opponent.bytes()),
-            numbers,
+            numbers: Numbers::new(&numbers),
         }
     }
 
@@ -134,7 +135,7 @@ impl Board {
         // It is one that the field may have; `fields_have_their_ranges` says which those are.
         ensures allowed { can_have n result ≡ true }
     {
-        self.numbers[n - 4]
+        self.numbers.get(n - 4)
     }
 
     /// A die, by the number of its field: 0 if it is not shown.
@@ -176,7 +177,7 @@ impl Board {
             return None;
         }
         let mut board = *self;
-        board.numbers[n - 4] = value;
+        board.numbers.set(n - 4, value);
         Some(board)
     }
 }
