@@ -6,6 +6,7 @@ import hashlib
 import json
 import os
 import pathlib
+import signal
 import sys
 import time
 
@@ -15,13 +16,18 @@ sys.path.insert(0, str(TOP / 'tests'))
 
 class Run:
     """A run of a script: what it has done so far. Its log gets a line of JSON for each part that differs, and at the
-    end one for the whole run."""
+    end one for the whole run. After a SIGTERM no part begins, and after a second one it ends at once."""
 
     def __init__(self, name, options, built):
         self.name, self.options = name, options
         self.built = hashlib.sha256(pathlib.Path(built).read_bytes()).hexdigest()
         self.parts, self.done, self.failed, self.began = 0, 0, 0, time.monotonic()
         self.seen = collections.Counter()
+        signal.signal(signal.SIGTERM, self.stop)
+
+    def stop(self, *_):
+        self.options.minutes = 0
+        signal.signal(signal.SIGTERM, signal.SIG_DFL)
 
     def part(self, seed, done, seconds, seen, why=None):
         """A part was done: of which seed, how many inputs, how long it took, what was in them, and what was wrong."""
@@ -67,9 +73,9 @@ def common_options(line, least):
 
 def seeds(options, parts):
     """The seeds of so many parts, until the time is over."""
-    end = time.monotonic() + 60 * options.minutes
+    began = time.monotonic()
     for at in range(parts):
-        if time.monotonic() > end:
+        if time.monotonic() - began >= 60 * options.minutes:
             return
         yield options.seed + at
 
