@@ -167,7 +167,7 @@ struct Model {
 
 impl Model {
     fn new(board: Board) -> Model {
-        Model { log: Vec::with_capacity(4096), wires: Vec::new(), logged_in: 0, board, client: Client::default(), current: 0 }
+        Model { log: Vec::new(), wires: Vec::new(), logged_in: 0, board, client: Client::default(), current: 0 }
     }
 
     fn note(&mut self, what: &str, conn: usize, more: &[&[u8]]) {
@@ -427,18 +427,6 @@ impl Model {
         }
         Ok(())
     }
-
-    /// What is printed if the next event is refused, and the status.
-    fn refused(mut self, done: usize, why: Refused) -> (Vec<u8>, i32) {
-        self.log.extend_from_slice(format!("refused {done} {why}\n").as_bytes());
-        (self.log, 3)
-    }
-
-    /// The same if all events are done.
-    fn ended(mut self, done: usize) -> (Vec<u8>, i32) {
-        self.log.extend_from_slice(format!("end {done}\n").as_bytes());
-        (self.log, 0)
-    }
 }
 
 /// What is printed for a script, and the status.
@@ -453,10 +441,12 @@ fn play(script: &[u8]) -> (Vec<u8>, i32) {
     let mut model = Model::new(board);
     for (done, event) in events.iter().enumerate() {
         if let Err(why) = model.act(event) {
-            return model.refused(done, why);
+            model.log.extend_from_slice(format!("refused {done} {why}\n").as_bytes());
+            return (model.log, 3);
         }
     }
-    model.ended(events.len())
+    model.log.extend_from_slice(format!("end {}\n", events.len()).as_bytes());
+    (model.log, 0)
 }
 
 /// How often each kind of line was in the logs.
@@ -552,8 +542,8 @@ fn judge(at: u64, wanted: (&[u8], Option<i32>), found: (&[u8], Option<i32>)) {
 fn compare(words: &[&str], (seed, count): (u64, u64), folder: &str) -> io::Result<()> {
     let (mut runs, mut seen) = (Runs::new(words, folder, seed)?, Seen::default());
     for at in 0..count {
-        let (script, printed) = plain_scripts::script(seed, at);
-        let (log, status) = printed.unwrap_or_else(|| play(&script));
+        let script = plain_scripts::script(seed, at);
+        let (log, status) = play(&script);
         judge(at, (&log, Some(status)), runs.run(&script)?);
         seen.add_log(&log);
     }
@@ -565,8 +555,8 @@ fn compare(words: &[&str], (seed, count): (u64, u64), folder: &str) -> io::Resul
 fn compare_many(program: &str, (seed, count): (u64, u64), folder: &str) -> io::Result<()> {
     let (mut given, mut wanted, mut seen) = (Vec::new(), Vec::new(), Seen::default());
     for at in 0..count {
-        let (script, printed) = plain_scripts::script(seed, at);
-        let (log, status) = printed.unwrap_or_else(|| play(&script));
+        let script = plain_scripts::script(seed, at);
+        let (log, status) = play(&script);
         given.extend_from_slice(format!("{}\n", script.len()).as_bytes());
         given.extend_from_slice(&script);
         seen.add_log(&log);
@@ -597,7 +587,7 @@ fn main() -> io::Result<()> {
         ["compare", program, mode, seed, count, folder] => {
             compare(&[program, mode], (number(seed), number(count)), folder)
         }
-        ["make", seed, at] => io::stdout().write_all(&plain_scripts::script(number(seed), number(at)).0),
+        ["make", seed, at] => io::stdout().write_all(&plain_scripts::script(number(seed), number(at))),
         ["play"] => {
             let mut script = Vec::new();
             io::stdin().read_to_end(&mut script)?;

@@ -169,16 +169,12 @@ impl Board {
         if !line.starts_with(b"board:") || check_board(line).is_err() {
             return None;
         }
-        let mut texts = line.split(|byte| *byte == b':').skip(1);
-        let (player, opponent) = (texts.next()?.to_vec(), texts.next()?.to_vec());
+        let texts: Vec<&[u8]> = line.split(|byte| *byte == b':').collect();
         let mut fields = [0; 54];
-        for (field, text) in fields[4..].iter_mut().zip(texts) {
-            // each is a number of at most eight digits, as was found above
-            let digits = text.strip_prefix(b"-").unwrap_or(text);
-            let number = digits.iter().fold(0, |number, digit| number * 10 + i32::from(*digit - b'0'));
-            *field = if digits.len() < text.len() { -number } else { number };
+        for (field, text) in fields[4..].iter_mut().zip(&texts[3..]) {
+            *field = decimal(text, -99_999_999, 99_999_999).ok()? as i32;
         }
-        Some(Board { player, opponent, fields })
+        Some(Board { player: texts[1].to_vec(), opponent: texts[2].to_vec(), fields })
     }
 
     pub fn printed(&self) -> Vec<u8> {

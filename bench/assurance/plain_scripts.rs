@@ -3,7 +3,7 @@
 //! They are made as those of tests/fuzz.py are; the same seed and place make the same script. Two in three begin with the
 //! seven events after which a client can click. As many come then as one of COUNTS says, and 200 in one of forty.
 
-use super::plain_rules::{command, push_number, Board, Decision, Phase, BAR};
+use super::plain_rules::{command, push_number, Decision, Phase, BAR};
 use super::{read_event, read_script, Model};
 
 const COUNTS: [usize; 8] = [2, 5, 8, 12, 16, 24, 40, 80];
@@ -471,11 +471,9 @@ fn refused_event(chance: &mut Chance) -> Vec<u8> {
     chance.one(&REFUSED).replace("GOOD", &good).replace("BAD", &bad).into_bytes()
 }
 
-/// Joins lines; one script in 25 gets a line that is odd or unreadable, some have CRs, or no end of their last line. Also
-/// says whether it is certain that a reader finds the same lines.
-fn joined(chance: &mut Chance, mut lines: Vec<Vec<u8>>) -> (Vec<u8>, bool) {
-    let is_spoiled = chance.happens(40);
-    if is_spoiled {
+/// Joins lines; one script in 25 gets a line that is odd or unreadable, some have CRs, or no end of their last line.
+fn spoiled(chance: &mut Chance, mut lines: Vec<Vec<u8>>) -> Vec<u8> {
+    if chance.happens(40) {
         let some = lines[chance.below(lines.len())].clone();
         let odd = match chance.below(3) {
             0 => chance.one(&ODD).as_bytes().to_vec(),
@@ -486,14 +484,12 @@ fn joined(chance: &mut Chance, mut lines: Vec<Vec<u8>>) -> (Vec<u8>, bool) {
     }
     let end = chance.one::<&[u8]>(&[b"\n", b"\n", b"\n", b"\r\n"]);
     let mut text = lines.join(end);
-    let is_changed = chance.happens(15);
-    if is_changed {
+    if chance.happens(15) {
         text = changed(chance, text);
     }
     let last = chance.one::<&[u8]>(&[b"", b"\r\n", b"\r", b"\n\n"]);
-    let is_ended = chance.happens(800);
-    text.extend_from_slice(if is_ended { end } else { last });
-    (text, is_ended && !is_spoiled && !is_changed)
+    text.extend_from_slice(if chance.happens(800) { end } else { last });
+    text
 }
 
 /// What a client hears before it can click.
@@ -505,45 +501,39 @@ fn first_events(chance: &mut Chance) -> [Vec<u8>; 7] {
     ["open".to_string(), login, first, settings, deliver.clone(), style, deliver].map(String::into_bytes)
 }
 
-/// The events of a script, each an event of the model; the last one may be refused. Gives its lines, and if all are
-/// readable what is printed for them, with the status.
-fn events(chance: &mut Chance, board: Board) -> (Vec<Vec<u8>>, Option<(Vec<u8>, i32)>) {
-    let (mut lines, mut events, mut model) = (Vec::new(), 0, Model::new(board));
+/// The events of a script, each an event of the model; the last one may be refused.
+fn events(chance: &mut Chance, model: &mut Model) -> Vec<Vec<u8>> {
+    let mut lines = Vec::new();
     if chance.happens(667) {
         lines.extend(first_events(chance));
-    }
-    let count = lines.len() + if chance.happens(25) { 200 } else { chance.one(&COUNTS) };
-    while events < count {
-        if events == lines.len() {
-            lines.push(if chance.happens(4) { refused_event(chance) } else { event(chance, &model) });
+        for line in &lines {
+            let _ = read_event(line).map(|event| model.act(&event));
         }
-        let Some(event) = read_event(&lines[events]) else {
-            return (lines, None);
-        };
-        if let Err(why) = model.act(&event) {
-            lines.truncate(events + 1);
-            return (lines, Some(model.refused(events, why)));
-        }
-        events += 1;
     }
-    (lines, Some(model.ended(events)))
+    let count = if chance.happens(25) { 200 } else { chance.one(&COUNTS) };
+    for _ in 0..count {
+        let line = if chance.happens(4) { refused_event(chance) } else { event(chance, model) };
+        let is_done = read_event(&line).is_some_and(|event| model.act(&event).is_ok());
+        lines.push(line);
+        if !is_done {
+            break;
+        }
+    }
+    lines
 }
 
-/// The script of this seed and place; and what is printed for it, with the status, if that is known from making it.
-pub fn script(seed: u64, at: u64) -> (Vec<u8>, Option<(Vec<u8>, i32)>) {
+/// The script of this seed and place.
+pub fn script(seed: u64, at: u64) -> Vec<u8> {
     let chance = &mut Chance::new(seed, at);
     let mut first = good_board(chance, false).into_bytes();
     if chance.happens(30) {
         first = changed(chance, first);
     }
     let begun = read_script(&first).ok().map(|(board, _)| board).filter(|board| board.is_good());
-    let (more, printed) = begun.map(|board| events(chance, board)).unwrap_or_default();
-    let mut lines = vec![first];
-    lines.extend(more);
-    let has_more = chance.happens(100);
-    if has_more {
+    let more = begun.map(|board| events(chance, &mut Model::new(board))).unwrap_or_default();
+    let mut lines = [vec![first], more].concat();
+    if chance.happens(100) {
         lines.push(chance.one(&["open", "x", "repeat"]).as_bytes().to_vec());
     }
-    let (text, is_same) = joined(chance, lines);
-    (text, printed.filter(|_| is_same && !has_more))
+    spoiled(chance, lines)
 }
