@@ -6,6 +6,8 @@ Each sits at a pseudo-terminal, reads rows, and types what a hint or an advice n
 talks, leaves, or says goodbye. The habits of the server, the delays, portions and cuts of the wires are by lot. By what
 the server knew at that moment it is judged whether each row was true and led on, whether the match stood still, what
 was sent and how often, and what the pictures showed. The last line is 'N passed, M failed', of the matches.
+
+It was seen to find: a hint that names no move if one is to be made.
 """
 
 import argparse
