@@ -228,10 +228,19 @@ fn is_deciding(client: &Client) -> bool {
     )
 }
 
+/// What is said if nothing waits: what the client takes; and if no board is shown, how one is.
+fn row_of_game(client: &Client) -> Row {
+    if client.game().is_some() {
+        Row::Offers
+    } else {
+        Row::Turn
+    }
+}
+
 /// What is said of a decision that was refused, or that waits though its board came again.
 fn row_of_refused(client: &Client, standing: Standing, has_way: bool) -> Row {
     if client.waiting().is_none() {
-        return Row::Offers;
+        return row_of_game(client);
     }
     match standing {
         Standing::Refused if has_way => Row::Declined,
@@ -289,7 +298,7 @@ fn row_in_game(client: &Client, situation: &Situation, offers: &Offers, has_way:
         Standing::Due => row_of_turn(offers),
         Standing::Answered => Row::Nothing,
         Standing::Continued | Standing::Fresh => row_of_continued(client, situation.is_due),
-        Standing::Playing if client.game().is_none() => Row::Turn,
+        Standing::Playing => row_of_game(client),
         _ => Row::Offers,
     }
 }

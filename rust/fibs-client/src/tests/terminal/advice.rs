@@ -200,7 +200,7 @@ fn an_offer_to_resign_is_answered() {
 }
 
 /// A decision that was refused, that crossed the end of a match, or of which nothing is heard.
-static DECIDED: [Scene; 9] = [
+static DECIDED: [Scene; 10] = [
     (
         &[Step::Types(b"roll"), Step::Hears(b"** You can't roll now.\r\n"), Step::Rests],
         "** You can't roll now.\nroll was refused: board shows the game.\n",
@@ -271,6 +271,20 @@ static DECIDED: [Scene; 9] = [
             Step::Rests,
         ],
         " You roll, or double, or resign.\nYour turn: roll, or double.\n",
+    ),
+    (
+        &[
+            Step::Types(b"resign n"),
+            Step::Loses,
+            Step::Opens,
+            Step::Hears(WELCOME),
+            Step::Hears(SETTINGS),
+            Step::Hears(b"bob has joined you. Your running match was loaded.\r\n"),
+            Step::Rests,
+            Step::Hears(b"bob rejects. The game continues.\r\n"),
+            Step::Rests,
+        ],
+        "bob rejects. The game continues.\nIt may be your turn: board shows the game.\n",
     ),
 ];
 
