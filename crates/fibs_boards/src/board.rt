@@ -1,6 +1,6 @@
 //! Boards of FIBS board style 3.
 
-ghost use Rattle.std.specs.Prelude.{◌≡◌, ◌≢◌, ◌≤◌, IfSome, IsSome, ◌↔◌, ◌++◌, ◌+◌, ℕ, true};
+ghost use Rattle.std.specs.Prelude.{◌≡◌, ◌≢◌, ◌≤◌, IfSome, IsSome, ◌↔◌, ◌≤ℤ◌, ◌⊎◌, pos, negsuc, ◌++◌, ◌+◌, ℕ, true};
 ghost use Rattle.std.specs.Prelude.{IfOk, IfErr, OnOk, OnErr, drop, option_map, Ok, Err};
 ghost use Rattle.fibs_boards.specs.StoredParts.{parts};
 ghost use Rattle.fibs_fields.specs.Bytes.{name_bytes};
@@ -132,8 +132,15 @@ impl Board {
         requires low { 4 ≤ n }
         requires high { n ≤ 53 }
         ensures value { result ≡ field_of (fields_of self.now) n }
-        // It is one that the field may have; `fields_have_their_ranges` says which those are.
+        // It is one that the field may have; group by group, for who calculates with it:
         ensures allowed { can_have n result ≡ true }
+        ensures place { 7 ≤ n → n ≤ 32 → (negsuc 14 ≤ℤ result) × (result ≤ℤ pos 15) }
+        ensures turn { n ≡ 33 → (negsuc 0 ≤ℤ result) × (result ≤ℤ pos 1) }
+        ensures dice { 34 ≤ n → n ≤ 37 → (pos 0 ≤ℤ result) × (result ≤ℤ pos 6) }
+        ensures cube { n ≡ 38 → (pos 1 ≤ℤ result) × (result ≤ℤ pos 1048576) }
+        ensures flags { 39 ≤ n → n ≤ 41 → (result ≡ pos 0) ⊎ (result ≡ pos 1) }
+        ensures side { 42 ≤ n → n ≤ 43 → (result ≡ negsuc 0) ⊎ (result ≡ pos 1) }
+        ensures off { 46 ≤ n → n ≤ 47 → (pos 0 ≤ℤ result) × (result ≤ℤ pos 15) }
     {
         self.numbers.get(n - 4)
     }
