@@ -14,5 +14,4 @@ pub mod Lengths
 pub mod NextFields
 pub mod OneNumberMore
 pub mod Pieces
-pub mod SmallNumbers
 pub mod SpelledBoards

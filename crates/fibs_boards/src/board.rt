@@ -12,7 +12,6 @@ ghost use Rattle.fibs_boards.specs.Board.{BoardFields, IsBoard, Fit, field_value
 ghost use Rattle.fibs_boards.specs.Board.{field_of, can_have, with_field};
 
 use crate::field_ranges::can_have;
-use crate::numbers::Numbers;
 use crate::print::{LINE_LEN, write_board};
 use crate::read::read_board;
 use crate::stored_name::StoredName;
@@ -33,7 +32,7 @@ use std::alloc::AllocError;
 pub struct Board {
     player: StoredName,
     opponent: StoredName,
-    numbers: Numbers,
+    numbers: [i32; 50],
     pub ghost valid: { IsBoard (parts player opponent numbers) } by { IsBoard-prop (parts player opponent numbers) },
 }
 
@@ -49,7 +48,7 @@ impl Board {
         Board {
             player: StoredName::new(player.bytes()),
             opponent: StoredName::new(opponent.bytes()),
-            numbers: Numbers::new(&numbers),
+            numbers,
         }
     }
 
@@ -142,7 +141,7 @@ impl Board {
         ensures side { 42 ≤ n → n ≤ 43 → (result ≡ negsuc 0) ⊎ (result ≡ pos 1) }
         ensures off { 46 ≤ n → n ≤ 47 → (pos 0 ≤ℤ result) × (result ≤ℤ pos 15) }
     {
-        self.numbers.get(n - 4)
+        self.numbers[n - 4]
     }
 
     /// A die, by the number of its field: 0 if it is not shown.
@@ -184,7 +183,7 @@ impl Board {
             return None;
         }
         let mut board = *self;
-        board.numbers.set(n - 4, value);
+        board.numbers[n - 4] = value;
         Some(board)
     }
 }

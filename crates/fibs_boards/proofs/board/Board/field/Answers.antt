@@ -1,10 +1,8 @@
-use Rattle.std.proofs.Common.{◌-◌, ap, ◌∙◌, arith}
-use Rattle.std.specs.Prelude.{pos}
+use Rattle.std.proofs.Common.{◌-◌, ap, ◌∙◌, arith, get_or, rules}
+use Rattle.std.specs.Prelude.{FitsSigned, pos}
 use Rattle.std.specs.Int.{w32}
 use Rattle.std.proofs.lemmas.Int.{to_z-of_z}
-use Rattle.fibs_boards.specs.Board.{can_have, field_of, field_values}
-use Rattle.fibs_boards.specs.StoredBoard.{fields_of}
-use Rattle.fibs_boards.specs.StoredNumbers.{numbers_of}
+use Rattle.fibs_boards.specs.Board.{can_have, field_values}
 use Rattle.fibs_boards.proofs.BoardLemmas.FieldGroups.{can_have_by}
 use Rattle.fibs_boards.proofs.BoardLemmas.FieldRangeLaws.{field_ranges}
 use Rattle.fibs_boards.proofs.BoardLemmas.OneNumberMore.{fit_at}
@@ -13,9 +11,11 @@ use Rattle.fibs_boards.proofs.board.Board.field.Goals as goal
 
 pub returns-clause-allowed : goal.returns-clause-allowed
 returns-clause-allowed c =
-    ap (can_have c.args.n) (to_z-of_z w32 c.get.result (record { sfits = c.get.type_inv }) ∙ c.get.ensures)
-    ∙ can_have_by c.args.n (field_of (fields_of c.args.self.now) c.args.n) c.requires.low
-    (fit_at field_values (numbers_of c.args.self.now.numbers) (c.args.n - 4) (pos 0) c.args.self.now.valid.2
+    let z = get_or c.args.self.now.numbers (c.args.n - 4) (pos 0) in
+    let fits : FitsSigned w32 z = search rules in
+    ap (can_have c.args.n) (to_z-of_z w32 z fits)
+    ∙ can_have_by c.args.n z c.requires.low
+    (fit_at field_values c.args.self.now.numbers (c.args.n - 4) (pos 0) c.args.self.now.valid.2
     (omega (arith, table_long, c.requires.low, c.requires.high)))
 
 pub returns-clause-place : goal.returns-clause-place
