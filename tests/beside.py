@@ -5,6 +5,8 @@ In each session a player types what both programs are given at once, and a serve
 the same rules: an ending is played, with chatter, wrong lines and lost connections at random. What a program prints, on
 both streams, what it sends on each connection, what it logs, and its status have to be the same. Those that differ are
 played again, alone: a machine may be so busy that an answer comes only after the program has stopped to wait for it.
+A log is compared by direction, since it tells what was heard before a line went: of two answers that the server sends
+one directly after the other, a read brings the first alone or both.
 Prints a line for each session that differs, and then `N passed, M failed`.
 """
 
@@ -132,7 +134,16 @@ def play(program, session):
                 logged = file.read()
     ending.server.listener.close()
     ending.thread.join(1)
-    return {'status': done.returncode, 'out': done.stdout, 'err': done.stderr, 'heard': ending.heard, 'log': logged}
+    return {'status': done.returncode, 'out': done.stdout, 'err': done.stderr, 'heard': ending.heard,
+            'log': by_direction(logged)}
+
+
+def by_direction(logged):
+    """The lines of a log that were sent, and those that were heard, each in their order; or None if there is no log."""
+    if logged is None:
+        return None
+    lines = logged.splitlines(keepends=True)
+    return [line for line in lines if line.startswith(b'>> ')], [line for line in lines if not line.startswith(b'>> ')]
 
 
 def compare(programs, seed):
