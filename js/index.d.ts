@@ -28,7 +28,7 @@ export interface Board {
   mayDouble: boolean;
   opponentMayDouble: boolean;
   wasDoubled: boolean;
-  /** Null if the user does not play in this game: then `noPosition` says why. */
+  /** Null if the board has no position: then `noPosition` says why. */
   phase: Phase | null;
   noPosition: 'NotYou' | 'TooManyOwn' | 'TooManyOther' | null;
   /** Each side's checkers in its own numbers: those borne off, the places 1 to 24, the bar. */

@@ -15,8 +15,8 @@ _FIELDS = range(1, len(Player._fields) + 1)
 
 
 class Directory(Handle):
-    """The players of messages 5 and 8: each as the last message 5 has it, in the order in which the server first
-    listed them. At most 4096."""
+    """The players of messages 5 and 8: each as the last message 5 has it, in the order in which they were first
+    listed, or first listed again after a message 8. At most 4096."""
 
     def __init__(self) -> None:
         super().__init__('fibs_directory_new', 'fibs_directory_free')

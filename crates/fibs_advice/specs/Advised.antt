@@ -1,6 +1,6 @@
 -- What is advised in a state, and how a terminal says it (the project's own).
 use Rattle.std.specs.Prelude.{◌≡◌, ◌≢◌, ◌++◌, ◌∷◌, ℕ, List, [], codes, Bool, true, false}
-use Rattle.std.specs.Prelude.{Option, Some, None, IfSome, is_none}
+use Rattle.std.specs.Prelude.{Option, Some, None, IfSome, is_none, option_map}
 use Rattle.fibs_boards.specs.Board.{BoardFields}
 use Rattle.fibs_position.specs.Allowed.{allowed_of}
 use Rattle.fibs_position.specs.DecisionValue.{DecisionValue, accept, reject, decision_of}
@@ -50,11 +50,13 @@ pub record Advises (t : Talk) (standing : Standing) (a : Advice) : Type 0 where
   pub named : is_unsure standing ≡ true → may_decide a.offers ≡ true → names_way_on a.row ≡ true
   pub rolls : rolls_alone a.row ≡ true → a.offers.roll ≡ true
   pub plain : IfSome (plain_in a.row) (λ p. plain_refusal t p ≡ None)
-  pub automove : a.automove ≡ true → plain_refusal t automove_off ≡ None
-  pub greedy : a.greedy ≡ true → plain_refusal t greedy_off ≡ None
+  pub automove : a.automove ≡ is_none (plain_refusal t automove_off)
+  pub greedy : a.greedy ≡ is_none (plain_refusal t greedy_off)
   pub send : IfSome a.send (λ d. MaySend t standing (decision_of d))
   pub other : IfSome a.other (λ d. MaySend t standing (decision_of d))
   pub answer : answers a.row ≡ true → MayAnswer t standing
+  -- the decision that waits
+  pub asked : option_map decision_of a.asked ≡ option_map (λ ask. ask.1) (unconfirmed_now t)
 
 -- a line that goes as it is: the command of a decision, in the numbers of the board
 abbrev pub line_text : Direction → Decision → List ℕ

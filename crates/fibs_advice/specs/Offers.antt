@@ -6,9 +6,10 @@ use Rattle.fibs_position.specs.declared.decision.Decision.{Decision}
 use Rattle.fibs_position.specs.declared.decision.Decision.TheVariants as D
 use Rattle.fibs_position.specs.declared.direction.Direction.{Direction}
 use Rattle.fibs_position.specs.DecisionValue.{DecisionValue, roll, double, accept, reject, move}
+use Rattle.fibs_position.specs.DirectionOf.{direction_of}
 use Rattle.fibs_rules.specs.declared.play.Play.{Play}
 use Rattle.fibs_rules.specs.PlayValue.{hops_of}
-use Rattle.fibs_session.specs.History.Machine.{Talk, answer_now}
+use Rattle.fibs_session.specs.History.Machine.{Talk, answer_now, shown_now}
 use Rattle.fibs_advice.specs.declared.offers.Offers.{Offers}
 
 -- the client takes a decision now: by the history nothing refuses it
@@ -22,6 +23,8 @@ pub record OffersNow (t : Talk) (o : Offers) : Type 0 where
   pub accept : o.accept ≡ is_taken t accept
   pub reject : o.reject ≡ is_taken t reject
   pub example : IfSome o.example (λ play. is_taken t (move (hops_of play)) ≡ true)
+  -- commands are in the numbers of the board that is shown
+  pub direction : IfSome (shown_now t) (λ b. o.direction ≡ direction_of b)
 
 -- the first decision that may be made: to roll, else to move
 abbrev pub first_way : Bool → Option Play → Option Decision

@@ -1,5 +1,5 @@
 //! What is advised in a state.
-ghost use Rattle.std.specs.Prelude.{◌≡◌, true, false, None, IfOk, IfSome, IsTrue};
+ghost use Rattle.std.specs.Prelude.{◌≡◌, true, false, None, IfOk, IfSome, IsTrue, is_none};
 ghost use Rattle.fibs_history.specs.Machine.{Talk, shown_now, unconfirmed_now, plain_refusal};
 ghost use Rattle.fibs_position.specs.DecisionValue.{decision_of};
 ghost use Rattle.fibs_commands.specs.PlainOf.{plain_value};
@@ -87,8 +87,8 @@ fn sendable(client: &Client, standing: Standing, decision: Option<Decision>) -> 
 
 /// Whether the client takes a line now.
 fn is_plain_taken(client: &Client, plain: &Plain<'_>) -> bool
-    ensures { IsTrue result → (t : Talk) → StandsAfter client.now t →
-        plain_refusal t (plain_value plain.now) ≡ None }
+    ensures { (t : Talk) → StandsAfter client.now t →
+        result ≡ is_none (plain_refusal t (plain_value plain.now)) }
 {
     client.plain_refusal(plain).is_none()
 }

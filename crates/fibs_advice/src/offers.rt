@@ -1,14 +1,15 @@
 //! What may be decided now.
 ghost use Rattle.std.specs.Prelude.{◌≡◌, ◌++◌, true, IfOk, IfSome, OnOk, is_none};
 ghost use Rattle.fibs_position.specs.DecisionValue.{decision_of, move};
+ghost use Rattle.fibs_position.specs.DirectionOf.{direction_of};
 ghost use Rattle.fibs_rules.specs.PlayValue.{hops_of};
-ghost use Rattle.fibs_session.specs.History.Machine.{Talk};
+ghost use Rattle.fibs_session.specs.History.Machine.{Talk, shown_now};
 ghost use Rattle.fibs_session.specs.Calls.Standing.{StandsAfter};
 ghost use Rattle.fibs_advice.specs.Offers.{OffersNow, is_taken, may_decide, first_way, example_text};
 ghost use Rattle.fibs_advice.specs.Offers.{hint_words, hint_text};
 
 use fibs_commands::decision_text;
-use fibs_position::{Decision, Direction, GameBoard, Play};
+use fibs_position::{Decision, Direction, Play};
 use fibs_session::Client;
 use std::alloc::{AllocError, Global};
 
@@ -71,9 +72,14 @@ fn example(alloc: Global, client: &Client) -> Result<Option<Play>, AllocError>
     }
 }
 
-/// Which way the player of the board that is shown goes.
-pub fn direction(client: &Client) -> Direction {
-    client.game().map_or(Direction::Down, GameBoard::direction)
+/// The direction of the board that is shown. Without a board it is that of a player who goes down.
+pub(crate) fn direction(client: &Client) -> Direction
+    ensures { (t : Talk) → StandsAfter client.now t → IfSome (shown_now t) (λ b. result ≡ direction_of b) }
+{
+    match client.game() {
+        None => Direction::Down,
+        Some(game) => game.direction(),
+    }
 }
 
 /// What may be decided now: what the client takes.

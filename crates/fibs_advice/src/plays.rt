@@ -2,17 +2,12 @@
 
 use crate::spelling::moves::place_of;
 use fibs_commands::decision_text;
+use fibs_fields::decimal::append_number;
 use fibs_position::{Decision, Direction, GameBoard, Play};
-use itoa::Buffer;
 use std::alloc::{AllocError, Global};
 
 /// How many moves are listed.
 const MOST_LISTED: usize = 20;
-
-/// Appends a number.
-pub(crate) fn append_number(number: usize, text: &mut Vec<u8>) -> Result<(), AllocError> {
-    text.extend_from_slice(Buffer::new().format(number).as_bytes())
-}
 
 /// Appends a move in a row.
 fn append_row(play: Play, direction: Direction, text: &mut Vec<u8>) -> Result<(), AllocError> {

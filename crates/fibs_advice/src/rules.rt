@@ -1,9 +1,9 @@
 //! Which rule a move breaks.
 ghost use Rattle.std.specs.Prelude.{◌≤◌};
 
-use crate::plays::append_number;
 use fibs_boards::fields::{FIRST_DIE, SECOND_DIE};
 use fibs_commands::BAR;
+use fibs_fields::decimal::append_number;
 use fibs_position::{Direction, GameBoard, Play, Position, Step};
 use std::alloc::AllocError;
 
@@ -109,7 +109,7 @@ fn append_place(place: u8, direction: Direction, text: &mut Vec<u8>) -> Result<(
     } else if place >= BAR {
         text.extend_from_slice(b"the bar")
     } else {
-        append_number(usize::from(direction.line_place(place)), text)
+        append_number(direction.line_place(place), text)
     }
 }
 
@@ -137,7 +137,7 @@ fn append_more_dice(most: u8, text: &mut Vec<u8>) -> Result<(), AllocError> {
 /// Appends how many dice must be played, by a number.
 fn append_dice_to_play(most: u8, text: &mut Vec<u8>) -> Result<(), AllocError> {
     text.extend_from_slice(b"As many dice as can be must be played: ")?;
-    append_number(usize::from(most), text)?;
+    append_number(most, text)?;
     text.extend_from_slice(b".")
 }
 

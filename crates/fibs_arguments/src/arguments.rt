@@ -90,13 +90,13 @@ status 3:
                           (more than 15 checkers)
 
 With --json it prints the JSON object of LINE on standard output, as
-`fibs show --json` does, also at a terminal. That of a board with a position has
-one member more:
+`fibs show --json` does, also at a terminal. That of a board with a position
+has one member more:
 
   \"plays\":[{\"command\":COMMAND,\"steps\":[[FROM,TO],...]},...]
 
-FROM and TO are places in the player's own numbers: 25 is the bar, 0 is off. For
-any other LINE the status is 3.";
+FROM and TO are places in the player's own numbers: 25 is the bar, 0 is off.
+For any other LINE the status is 3.";
 
 const REPLAY: &str = "Run a script of events, and print what happened";
 
@@ -179,7 +179,7 @@ be /dev/fd/3 or a named pipe, and each line of standard input is a typed line.
 If FILE can't be read, the status is 4.
 
 With `--log FILE` each line of the server is appended at once to FILE, and
-after `> ` each line that is sent. The password never is. `fibs show` reads
+after `>> ` each line that is sent. The password never is. `fibs show` reads
 such a file. If FILE can't be opened, the status is 4.
 
 Then each line that is typed is one of
@@ -243,8 +243,8 @@ If standard output is a terminal, a board is drawn, and the other lines are put
 in words.
 
 With --json it prints a JSON object for each line, also at a terminal: for a
-line of the server the object that `fibs show --json` prints for it, and for any
-other line
+line of the server the object that `fibs show --json` prints for it, and for
+any other line
 
   {\"kind\":WORD,\"line\":LINE,...}
 

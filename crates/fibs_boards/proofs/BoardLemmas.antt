@@ -14,4 +14,5 @@ pub mod Lengths
 pub mod NextFields
 pub mod OneNumberMore
 pub mod Pieces
+pub mod SmallNumbers
 pub mod SpelledBoards

@@ -4,6 +4,7 @@ pub mod FieldRanges
 pub mod Printed
 -- The boards of the program as these.
 pub mod StoredBoard
+pub mod StoredNumbers
 pub mod StoredParts
 -- What only private functions and proofs say; on the reading of boards rests `reading_value` of fibs_messages too.
 pub mod BoardProp

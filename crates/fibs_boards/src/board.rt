@@ -1,6 +1,6 @@
 //! Boards of FIBS board style 3.
 
-ghost use Rattle.std.specs.Prelude.{◌≡◌, ◌≢◌, ◌≤◌, IfSome, IsSome, ◌↔◌, ◌≤ℤ◌, ◌⊎◌, pos, negsuc, ◌++◌, ◌+◌, ℕ, true};
+ghost use Rattle.std.specs.Prelude.{◌≡◌, ◌≢◌, ◌≤◌, IfSome, IsSome, ◌↔◌, ◌++◌, ◌+◌, ℕ, true};
 ghost use Rattle.std.specs.Prelude.{IfOk, IfErr, OnOk, OnErr, drop, option_map, Ok, Err};
 ghost use Rattle.fibs_boards.specs.StoredParts.{parts};
 ghost use Rattle.fibs_fields.specs.Bytes.{name_bytes};
@@ -12,6 +12,7 @@ ghost use Rattle.fibs_boards.specs.Board.{BoardFields, IsBoard, Fit, field_value
 ghost use Rattle.fibs_boards.specs.Board.{field_of, can_have, with_field};
 
 use crate::field_ranges::can_have;
+use crate::numbers::Numbers;
 use crate::print::{LINE_LEN, write_board};
 use crate::read::read_board;
 use crate::stored_name::StoredName;
@@ -32,7 +33,7 @@ use std::alloc::AllocError;
 pub struct Board {
     player: StoredName,
     opponent: StoredName,
-    numbers: [i32; 50],
+    numbers: Numbers,
     pub ghost valid: { IsBoard (parts player opponent numbers) } by { IsBoard-prop (parts player opponent numbers) },
 }
 
@@ -48,7 +49,7 @@ impl Board {
         Board {
             player: StoredName::new(player.bytes()),
             opponent: StoredName::new(opponent.bytes()),
-            numbers,
+            numbers: Numbers::new(&numbers),
         }
     }
 
@@ -131,17 +132,10 @@ impl Board {
         requires low { 4 ≤ n }
         requires high { n ≤ 53 }
         ensures value { result ≡ field_of (fields_of self.now) n }
-        // It is one that the field may have; group by group, for who calculates with it:
+        // It is one that the field may have; the law `fields_have_their_ranges` says which those are.
         ensures allowed { can_have n result ≡ true }
-        ensures place { 7 ≤ n → n ≤ 32 → (negsuc 14 ≤ℤ result) × (result ≤ℤ pos 15) }
-        ensures turn { n ≡ 33 → (negsuc 0 ≤ℤ result) × (result ≤ℤ pos 1) }
-        ensures dice { 34 ≤ n → n ≤ 37 → (pos 0 ≤ℤ result) × (result ≤ℤ pos 6) }
-        ensures cube { n ≡ 38 → (pos 1 ≤ℤ result) × (result ≤ℤ pos 1048576) }
-        ensures flags { 39 ≤ n → n ≤ 41 → (result ≡ pos 0) ⊎ (result ≡ pos 1) }
-        ensures side { 42 ≤ n → n ≤ 43 → (result ≡ negsuc 0) ⊎ (result ≡ pos 1) }
-        ensures off { 46 ≤ n → n ≤ 47 → (pos 0 ≤ℤ result) × (result ≤ℤ pos 15) }
     {
-        self.numbers[n - 4]
+        self.numbers.get(n - 4)
     }
 
     /// A die, by the number of its field: 0 if it is not shown.
@@ -183,7 +177,7 @@ impl Board {
             return None;
         }
         let mut board = *self;
-        board.numbers[n - 4] = value;
+        board.numbers.set(n - 4, value);
         Some(board)
     }
 }

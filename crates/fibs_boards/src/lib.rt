@@ -5,6 +5,7 @@ mod board;
 mod field_ranges;
 pub mod fields;
 pub mod laws;
+mod numbers;
 mod print;
 pub mod read;
 mod stored_name;

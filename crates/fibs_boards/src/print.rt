@@ -4,7 +4,9 @@ ghost use Rattle.std.specs.Prelude.{◌≡◌, ◌≤◌, ◌+◌, ◌∷◌, �
 ghost use Rattle.std.specs.Fmt.{signed_decimal};
 ghost use Rattle.fibs_boards.specs.Board.{Fit, field_values, spelling};
 ghost use Rattle.fibs_boards.specs.Numerals.{after_colons};
+ghost use Rattle.fibs_boards.specs.StoredNumbers.{numbers_of};
 
+use crate::numbers::Numbers;
 use itoa::write_digits;
 
 /// The most bytes that a board's line takes: `board:`, two names, a colon between them, and 194 bytes of numbers and
@@ -44,17 +46,17 @@ fn write_number(text: &mut [u8; LINE_LEN], end: usize, number: i32) -> usize
 }
 
 /// Writes the numbers of fields 4 to 53, each after a colon, so that they end the text, and gives where they start.
-fn write_numbers(text: &mut [u8; LINE_LEN], numbers: &[i32; 50]) -> usize
-    requires { Fit field_values numbers.now }
+fn write_numbers(text: &mut [u8; LINE_LEN], numbers: &Numbers) -> usize
+    requires { Fit field_values (numbers_of numbers.now) }
     ensures room { 135 ≤ result }
     ensures within { result ≤ 329 }
-    ensures written { drop result text.new ≡ after_colons numbers.now }
+    ensures written { drop result text.new ≡ after_colons (numbers_of numbers.now) }
 {
     let mut start = LINE_LEN;
-    let mut left = numbers.len();
+    let mut left = 50;
     while left > 0 {
         left -= 1;
-        start = write_number(text, start, numbers[left]);
+        start = write_number(text, start, numbers.get(left));
     }
     start
 }
@@ -77,14 +79,14 @@ pub fn write_board(
     text: &mut [u8; LINE_LEN],
     player: &[u8],
     opponent: &[u8],
-    numbers: &[i32; 50],
+    numbers: &Numbers,
 ) -> usize
     requires player { length player.now ≤ 64 }
     requires opponent { length opponent.now ≤ 64 }
-    requires numbers { Fit field_values numbers.now }
+    requires numbers { Fit field_values (numbers_of numbers.now) }
     ensures within { result ≤ 329 }
     ensures written { drop result text.new
-        ≡ spelling (record { player = player.now; opponent = opponent.now; numbers = numbers.now }) }
+        ≡ spelling (record { player = player.now; opponent = opponent.now; numbers = numbers_of numbers.now }) }
 {
     let start = write_numbers(text, numbers);
     let start = write_before(text, start, opponent);

@@ -10,8 +10,8 @@ ghost use Rattle.fibs_records.specs.Texts.{is_set};
 ghost use Rattle.fibs_records.specs.Kinds.{told_kind};
 
 use crate::lines::{FedLine, feed};
-use fibs_lines::{LIMIT, Lines};
-use fibs_messages::read;
+use fibs_history::read_line;
+use fibs_lines::{LIMIT, Line, Lines};
 use fibs_records::LinesHandle;
 use fibs_records::kinds::LineKind;
 use fibs_records::status::{DONE, NO_HANDLE, SHORT};
@@ -47,10 +47,7 @@ pub struct Told {
 fn kind_of(bytes: &[u8], cut: bool) -> LineKind
     ensures { result ≡ told_kind (line_reading (record { bytes = bytes.now; cut = cut })) }
 {
-    if cut {
-        return LineKind::text();
-    }
-    LineKind::of(&read(bytes))
+    LineKind::of(&read_line(&Line { bytes, cut }))
 }
 
 /// The line that was read, whose bytes begin there in the text.

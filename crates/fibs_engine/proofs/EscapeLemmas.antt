@@ -9,7 +9,8 @@ use Rattle.std.proofs.lemmas.List.Sums.{prefix_len_passes}
 use Rattle.std.proofs.lemmas.Bool.{not-true, or_parts}
 use Rattle.std.proofs.lemmas.Bool.Decides.{nat_tests}
 use Rattle.std.proofs.lemmas.List.{take_all, take_rest}
-use Rattle.fibs_engine.specs.Escape.{is_escaped, hex_escape, escaped}
+use Rattle.fibs_fields.specs.Hex.{hex_escape}
+use Rattle.fibs_engine.specs.Escape.{is_escaped, escaped}
 
 -- what a function makes of two lists in a row is what it makes of each, in a row
 pub flat_map-append : {X A : Type 0} (f : X → List A) (xs ys : List X)

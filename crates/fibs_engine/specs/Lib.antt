@@ -3,4 +3,5 @@ pub mod Printing
 pub mod Readings
 pub mod Reads
 pub mod Status
+pub mod Streams
 pub mod Writing

@@ -1,14 +1,13 @@
 //! Bytes of any kind on one line of text.
 ghost use Rattle.std.specs.Prelude.{◌≡◌, ◌≤◌, ◌<◌, ◌+◌, ◌++◌, take, drop, length, OnOk};
 ghost use Rattle.std.specs.List.{list_any, position};
-ghost use Rattle.fibs_engine.specs.Escape.{is_escaped, hex_escape, escaped};
+ghost use Rattle.fibs_engine.specs.Escape.{is_escaped, escaped};
 ghost use Rattle.fibs_engine.specs.Writing.{Wrote, progress_of};
 
 use crate::writing::{Broken, write_bytes};
+use fibs_fields::hex::hex_escape;
 use std::alloc::{AllocError, Global};
 use std::io::Write;
-
-const HEX_DIGITS: [u8; 16] = *b"0123456789abcdef";
 
 /// Whether a byte is not shown as it is.
 fn is_escaped(byte: u8) -> bool
@@ -54,15 +53,6 @@ fn has_escaped(bytes: &[u8]) -> bool
         at += WINDOW;
     }
     found
-}
-
-/// The escape of a byte: `\x` and two hexadecimal digits.
-fn hex_escape(byte: u8) -> [u8; 4]
-    ensures { result ≡ hex_escape byte }
-{
-    let high = HEX_DIGITS[usize::from(byte / 16)];
-    let low = HEX_DIGITS[usize::from(byte % 16)];
-    [b'\\', b'x', high, low]
 }
 
 /// What follows the byte at a place.

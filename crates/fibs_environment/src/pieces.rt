@@ -1,7 +1,6 @@
 //! What a text is made of.
-ghost use Rattle.std.specs.Prelude.{◌≡◌, ◌++◌, OnOk, decimal, take};
+ghost use Rattle.std.specs.Prelude.{◌≡◌, take};
 
-use itoa::Buffer;
 use std::alloc::AllocError;
 
 /// Appends pieces, one after another.
@@ -10,13 +9,6 @@ pub fn append_all(pieces: &[&[u8]], text: &mut Vec<u8>) -> Result<(), AllocError
         text.extend_from_slice(piece)?;
     }
     Ok(())
-}
-
-/// Appends a number.
-pub fn append_number(number: u64, text: &mut Vec<u8>) -> Result<(), AllocError>
-    ensures { OnOk result (text.new.items ≡ text.old.items ++ decimal number) }
-{
-    text.extend_from_slice(Buffer::new().format(number).as_bytes())
 }
 
 /// The columns of a row.

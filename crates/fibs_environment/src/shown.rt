@@ -1,9 +1,8 @@
 //! Bytes of a server as a terminal shows them: none of them acts on it.
 
+use fibs_fields::hex::hex_escape;
 use std::alloc::AllocError;
 use unicode_width::UnicodeWidthChar;
-
-const HEX_DIGITS: [u8; 16] = *b"0123456789abcdef";
 
 /// The blocks of Unicode beyond letters that a terminal shows: the signs of Latin-1, dashes and quotation marks, signs
 /// of currencies, arrows and mathematics, symbols, and pictures. Controls, spaces and marks of direction are in none.
@@ -37,9 +36,7 @@ fn append_byte(byte: u8, text: &mut Vec<u8>) -> Result<(), AllocError> {
     if is_plain(byte) {
         return text.extend_from_slice(&[byte]);
     }
-    let high = HEX_DIGITS[usize::from(byte / 16)];
-    let low = HEX_DIGITS[usize::from(byte % 16)];
-    text.extend_from_slice(&[b'\\', b'x', high, low])
+    text.extend_from_slice(&hex_escape(byte))
 }
 
 /// Appends each byte as if it stood alone.

@@ -7,6 +7,7 @@ pub mod Word
 pub mod Rating
 pub mod Faults
 pub mod Field
+pub mod Hex
 -- The values of the program as these, whose own facts are in the files above.
 pub mod Bytes
 -- What only private functions and proofs say; on the reading of fields rests `reading_value` of fibs_messages too.

@@ -1,7 +1,8 @@
-//! Numbers of fields, as they are spelled.
+//! Numbers, as they are spelled.
 
 ghost use Rattle.std.specs.Prelude.{◌≡◌, ◌↔◌, ◌-◌, ◌≤◌, ◌&&◌, ◌||◌, ℕ, cond, decimal, length, min, nat_le, pos, true};
-ghost use Rattle.std.specs.Prelude.{drop, [], ◌∷◌, option_map, Some, None, MatchOption, if◌then◌else◌};
+ghost use Rattle.std.specs.Prelude.{drop, take, [], ◌∷◌, ◌++◌, option_map, Some, None, MatchOption, OnOk};
+ghost use Rattle.std.specs.Prelude.{if◌then◌else◌};
 ghost use Rattle.std.specs.Char.{is_ascii_digit};
 ghost use Rattle.std.specs.List.{list_all, prefix_len};
 ghost use Rattle.std.specs.Str.Parse.{digits_value, starts_with_minus};
@@ -14,6 +15,8 @@ ghost use Rattle.fibs_fields.specs.DecimalReading.{IsNarrow, capped, unsigned_va
 use crate::fault::Fault;
 use crate::runs::run_of;
 use crate::values::{Values, allows};
+use itoa::{Buffer, Integer};
+use std::alloc::AllocError;
 
 /// Whether each byte is a digit.
 fn are_digits(text: &[u8]) -> bool
@@ -237,4 +240,12 @@ pub fn flag_in(text: &[u8]) -> Result<bool, Fault>
 {
     let number = number_in(Values::Between(0, 1), text)?;
     Ok(number == 1)
+}
+
+/// Appends a number.
+pub fn append_number<I: Integer>(number: I, text: &mut Vec<u8>) -> Result<(), AllocError>
+    ensures put { OnOk result (text.new.items ≡ text.old.items ++ I.text number) }
+    ensures front { take (length text.old.items) text.new.items ≡ text.old.items }
+{
+    text.extend_from_slice(Buffer::new().format(number).as_bytes())
 }

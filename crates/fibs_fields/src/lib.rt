@@ -1,10 +1,12 @@
-//! The fields of a line of a backgammon server, FIBS: how one is found, what its text says, and what is wrong with it.
+//! The fields of a line of a backgammon server, FIBS: how one is found, what its text says, and what is wrong with it;
+//! and how a number and a byte are written.
 #![tactic(auto)]
 
 pub mod dash;
 pub mod decimal;
 pub mod fault;
 pub mod fixed;
+pub mod hex;
 pub mod laws;
 pub mod name;
 pub mod rating;

@@ -5,10 +5,9 @@ ghost use Rattle.std.specs.Char.{is_ascii_digit};
 ghost use Rattle.fibs_fields.specs.Split.{seen};
 ghost use Rattle.fibs_fields.specs.Rating.{is_fraction, hundredths_of, rating_in, printed_rating};
 
-use crate::decimal::unsigned_number;
+use crate::decimal::{append_number, unsigned_number};
 use crate::fault::Fault;
 use crate::split::split;
-use itoa::Buffer;
 use std::alloc::AllocError;
 
 /// The greatest rating.
@@ -56,7 +55,7 @@ pub fn append_rating(out: &mut Vec<u8>, rating: u32) -> Result<(), AllocError>
     ensures put { OnOk result (out.new.items ≡ out.old.items ++ printed_rating rating) }
     ensures front { take (length out.old.items) out.new.items ≡ out.old.items }
 {
-    out.extend_from_slice(Buffer::new().format(rating / 100).as_bytes())?;
+    append_number(rating / 100, out)?;
     let tenths = b'0' + (rating % 100 / 10) as u8;
     let hundredths = b'0' + (rating % 10) as u8;
     out.extend_from_slice(&[b'.', tenths, hundredths])

@@ -1,4 +1,3 @@
 pub mod ObjectLemmas
-pub mod StreamLemmas
 pub mod TellingLemmas
 pub mod ToldLemmas

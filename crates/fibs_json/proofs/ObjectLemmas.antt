@@ -22,7 +22,7 @@ use Rattle.fibs_position.specs.PositionValue.{PositionValue, position_of}
 use Rattle.fibs_position.specs.declared.phase.Phase.{Phase}
 use Rattle.fibs_json.specs.Boards.{PositionMembers, position_members}
 use Rattle.fibs_json.specs.Columns.{NamedField, field_member, field_members, message_members, row_of}
-use Rattle.fibs_json.specs.Gains.{field_text}
+use Rattle.fibs_json.specs.Parts.{field_text}
 use Rattle.fibs_json.specs.Json.{Member, member, more_member, more_members, quoted, string, whole}
 use Rattle.fibs_json.specs.Lines.{HeardAs, HeardObject, LineObject, ObjectAs, ReadObject, ending, line_object}
 use Rattle.fibs_json.specs.Lines.{object_with, opening}

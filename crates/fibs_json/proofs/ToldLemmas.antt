@@ -12,7 +12,7 @@ use Rattle.std.specs.Option.{is_some}
 use Rattle.fibs_boards.specs.Board.{BoardFields}
 use Rattle.fibs_messages.specs.Line.{board_line}
 use Rattle.fibs_json.specs.Boards.{board_members}
-use Rattle.fibs_json.specs.Gains.{BeginsWith, front}
+use Rattle.fibs_json.specs.Parts.{BeginsWith, front}
 use Rattle.fibs_json.specs.Json.{inside, is_escaped, more_member, more_members}
 use Rattle.fibs_json.specs.Lines.{ReadObject, object_with}
 use Rattle.fibs_json.specs.Plays.{PlaysOf}

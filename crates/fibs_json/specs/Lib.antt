@@ -7,4 +7,4 @@ pub mod Streams
 pub mod Plays
 pub mod Told
 -- What only private functions and proofs say.
-pub mod Gains
+pub mod Parts

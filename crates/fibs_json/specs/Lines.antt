@@ -1,7 +1,7 @@
 -- The object that is printed for a line.
-use Rattle.std.specs.Prelude.{◌≡◌, ◌==◌, ℕ, Bool, true, false, min, List, [], ◌∷◌, ◌++◌, length, codes}
+use Rattle.std.specs.Prelude.{◌≡◌, ◌==◌, ℕ, Bool, true, false, List, [], ◌∷◌, ◌++◌, codes}
 use Rattle.std.specs.Prelude.{if◌then◌else◌}
-use Rattle.fibs_lines.specs.Lines.{ReadLine, lines_of, rest_of, kept_limit}
+use Rattle.fibs_lines.specs.Lines.{ReadLine}
 use Rattle.fibs_fields.specs.Faults.{fault_name}
 use Rattle.fibs_fields.specs.declared.fault.Fault.{Fault}
 use Rattle.fibs_messages.specs.Line.{ReadingValue, IsReading, numbered_line, board_line, text_line, malformed_line}
@@ -56,12 +56,6 @@ ObjectAs false bytes text = (reading : ReadingValue) × IsReading bytes reading 
 abbrev pub LineObject : ReadLine → List ℕ → Type 0
 LineObject line text = ObjectAs line.cut line.bytes text
 
--- what is printed for lines: the object of each in turn, ended by a byte 10
-abbrev pub LineObjects : List ReadLine → List ℕ → Type 0
-LineObjects [] text = text ≡ []
-LineObjects (line ∷ lines) text =
-    (first rest : List ℕ) × LineObject line first × LineObjects lines rest × (text ≡ first ++ (10 ∷ rest))
-
 -- the object of so many bytes after the last line end, ended by a byte 10
 unfoldable pub ending : ℕ → List ℕ
 ending held =
@@ -70,11 +64,6 @@ ending held =
 -- what is printed at the end, if so many bytes follow the last line end
 abbrev pub unfinished_object : ℕ → List ℕ
 unfinished_object held = if held == 0 then [] else ending held
-
--- all that is printed for a stream: its lines, and how many bytes are left over, at most as many as a line keeps
-abbrev pub StreamObjects : List ℕ → List ℕ → Type 0
-StreamObjects s text = (shown : List ℕ) × LineObjects (lines_of s) shown
-    × (text ≡ shown ++ unfinished_object (min kept_limit (length (rest_of s))))
 
 -- the front of an object tells its kind and its line, whatever follows it
 abbrev pub OpeningsTell : Type 0

@@ -6,7 +6,7 @@ ghost use Rattle.fibs_messages.specs.Message.{message_of};
 ghost use Rattle.fibs_json.specs.Json.{member, more_member, more_members, string, whole};
 ghost use Rattle.fibs_json.specs.Columns.{field_json, field_of_column, fields_of_columns, message_members, row_of};
 ghost use Rattle.fibs_json.specs.Columns.{some_bytes};
-ghost use Rattle.fibs_json.specs.Gains.{field_text};
+ghost use Rattle.fibs_json.specs.Parts.{field_text};
 
 use crate::columns::{Column, columns_of, word_of};
 use crate::members::{append_hundredths, append_null, append_string, append_truth, append_whole};
@@ -41,7 +41,7 @@ fn append_field(name: &[u8], field: &Field<'_>, text: &mut Vec<u8>) -> Result<()
 }
 
 /// Appends the field of a column, if the message has it.
-#[tactic(auto, unfolding(crate::specs::Gains::field_text))]
+#[tactic(auto, unfolding(crate::specs::Parts::field_text))]
 fn append_column(
     message: &Message<'_>,
     column: &Column,

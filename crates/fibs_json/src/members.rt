@@ -5,16 +5,9 @@ ghost use Rattle.std.specs.List.{flat_map};
 ghost use Rattle.fibs_json.specs.Json.{more_number, whole, wholes};
 
 use crate::strings::append_quoted;
+use fibs_fields::decimal::append_number;
 use fibs_fields::rating::append_rating;
-use itoa::{Buffer, Integer};
 use std::alloc::AllocError;
-
-/// Appends a number.
-pub(crate) fn append_number<I: Integer>(number: I, text: &mut Vec<u8>) -> Result<(), AllocError>
-    ensures { OnOk result (text.new.items ≡ text.old.items ++ I.text number) }
-{
-    text.extend_from_slice(Buffer::new().format(number).as_bytes())
-}
 
 /// Appends a comma, a name in quotation marks, and a colon.
 pub(crate) fn append_key(name: &[u8], text: &mut Vec<u8>) -> Result<(), AllocError>

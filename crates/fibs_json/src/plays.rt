@@ -18,13 +18,14 @@ ghost use Rattle.fibs_json.specs.Plays.{PlaysObject, PlaysOf, play_object, plays
 
 use crate::boards::{append_fields, append_position};
 use crate::line::{append_front, append_reading};
-use crate::members::{append_key, append_number};
+use crate::members::append_key;
 use crate::strings::append_quoted;
 use fibs_boards::Board;
 use fibs_commands::decision_text;
 use fibs_engine::fault::EngineFault;
 use fibs_engine::status::Status;
 use fibs_engine::writing::write_bytes;
+use fibs_fields::decimal::append_number;
 use fibs_messages::{Reading, read};
 use fibs_position::{Decision, Direction, Play, Position, Step};
 use std::alloc::{AllocError, Global};

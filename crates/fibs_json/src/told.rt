@@ -1,7 +1,7 @@
 //! The line that a word of the command line says: the object of a board goes in again.
 ghost use Rattle.std.specs.Prelude.{◌≡◌, ◌≢◌, ◌++◌, ◌∷◌, [], ℕ, List, MatchOption};
 ghost use Rattle.std.specs.List.{list_any};
-ghost use Rattle.fibs_json.specs.Gains.{BeginsWith, front};
+ghost use Rattle.fibs_json.specs.Parts.{BeginsWith, front};
 ghost use Rattle.fibs_json.specs.Json.{is_escaped};
 ghost use Rattle.fibs_json.specs.Told.{IsNoObject, IsObjectOf, SaysLine};
 

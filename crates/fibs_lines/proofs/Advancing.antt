@@ -28,15 +28,15 @@ pub over-grown : (room : ℕ) (r q : List ℕ)
 over-grown room r q = let a = length-take room r in let b = length-append r q in grind arith
 
 -- what is kept at the front, when a stream goes on
-grown-front : (room : ℕ) (old new r q : List ℕ) → old ≡ take room r → new ≡ old ++ take (room - length old) q
+grown-head : (room : ℕ) (old new r q : List ℕ) → old ≡ take room r → new ≡ old ++ take (room - length old) q
     → new ≡ take room (r ++ q)
-grown-front room old new r q e h = h ∙ ap (λ l. l ++ take (room - length l) q) e ∙ take-grown room r q
+grown-head room old new r q e h = h ∙ ap (λ l. l ++ take (room - length l) q) e ∙ take-grown room r q
 
 -- whether there is more than is kept, when a stream goes on
-grown-over : (room : ℕ) (old new : Bool) (front r q : List ℕ) → front ≡ take room r → old ≡ nat_lt room (length r)
-    → new ≡ (old || nat_lt (room - length front) (length q)) → new ≡ nat_lt room (length (r ++ q))
-grown-over room old new front r q e f h =
-    h ∙ ap (λ b. b || nat_lt (room - length front) (length q)) f
+grown-over : (room : ℕ) (old new : Bool) (head r q : List ℕ) → head ≡ take room r → old ≡ nat_lt room (length r)
+    → new ≡ (old || nat_lt (room - length head) (length q)) → new ≡ nat_lt room (length (r ++ q))
+grown-over room old new head r q e f h =
+    h ∙ ap (λ b. b || nat_lt (room - length head) (length q)) f
     ∙ ap (λ l. nat_lt room (length r) || nat_lt (room - length l) (length q)) e ∙ over-grown room r q
 
 -- two advances in a row are one
@@ -50,8 +50,8 @@ Advances-then u v w t t' a b = record {
 pub record Grows (old new : Kept) (t : List ℕ) : Type 0 where
   pub telnet : new.telnet ≡ telnet_along old.telnet t
   pub unended : has_end (data_along old.telnet t) ≡ false
-  pub front : new.front ≡ old.front ++ take (kept_limit + 1 - length old.front) (data_along old.telnet t)
-  pub over : new.over ≡ (old.over || nat_lt (kept_limit + 1 - length old.front) (length (data_along old.telnet t)))
+  pub head : new.head ≡ old.head ++ take (kept_limit + 1 - length old.head) (data_along old.telnet t)
+  pub over : new.over ≡ (old.over || nat_lt (kept_limit + 1 - length old.head) (length (data_along old.telnet t)))
 
 -- what is kept of t after old is an advance over t
 pub Advances-grown : (old new : Kept) (t : List ℕ) → Grows old new t → Advances old new t
@@ -62,10 +62,10 @@ Advances-grown old new t g = record {
       let rest = rest_of_more s t (data_along old.telnet t) gives g.unended in
       record {
         telnet = g.telnet ∙ ap (λ k. telnet_along k t) h.telnet ∙ sym (telnet_of-append s t);
-        front = grown-front (kept_limit + 1) old.front new.front (rest_of s) (data_along old.telnet t) h.front g.front
+        head = grown-head (kept_limit + 1) old.head new.head (rest_of s) (data_along old.telnet t) h.head g.head
             ∙ ap (take (kept_limit + 1)) (sym rest);
         over =
-            grown-over (kept_limit + 1) old.over new.over old.front (rest_of s) (data_along old.telnet t) h.front h.over
+            grown-over (kept_limit + 1) old.over new.over old.head (rest_of s) (data_along old.telnet t) h.head h.over
             g.over ∙ ap (λ r. nat_lt (kept_limit + 1) (length r)) (sym rest);
       };
   same_lines = λ s h.
@@ -76,14 +76,14 @@ Advances-grown old new t g = record {
 
 -- data that nothing interrupts
 pub Advances-run : (old new : Kept) (q : List ℕ) → IsRun q → old.telnet ≡ Data → new.telnet ≡ Data
-    → new.front ≡ old.front ++ take (kept_limit + 1 - length old.front) q
-    → new.over ≡ (old.over || nat_lt (kept_limit + 1 - length old.front) (length q)) → Advances old new q
-Advances-run old new q run was is front over =
+    → new.head ≡ old.head ++ take (kept_limit + 1 - length old.head) q
+    → new.over ≡ (old.over || nat_lt (kept_limit + 1 - length old.head) (length q)) → Advances old new q
+Advances-run old new q run was is head over =
     let gives : data_along old.telnet q ≡ q = ap (λ k. data_along k q) was ∙ data_along_run q run in
     Advances-grown old new q (record {
       telnet = is ∙ sym (telnet_along_run q run) ∙ ap (λ k. telnet_along k q) (sym was);
       unended = rw gives (has_end_run q run);
-      front = rw gives front;
+      head = rw gives head;
       over = rw gives over;
     })
 
@@ -94,13 +94,13 @@ not_over false room n h = grind arith
 
 -- data that nothing interrupts and that fits
 pub Advances-fitting : (old new : Kept) (bytes : List ℕ) (n : ℕ) → IsRun (take n bytes) → old.telnet ≡ Data
-    → new.telnet ≡ Data → length old.front + n ≤ 16385 → new.front ≡ old.front ++ take n bytes → new.over ≡ old.over
+    → new.telnet ≡ Data → length old.head + n ≤ 16385 → new.head ≡ old.head ++ take n bytes → new.over ≡ old.over
     → Advances old new (take n bytes)
-Advances-fitting old new bytes n run was is fits front over =
-    let room = kept_limit + 1 - length old.front in
+Advances-fitting old new bytes n run was is fits head over =
+    let room = kept_limit + 1 - length old.head in
     let short : length (take n bytes) ≤ room = omega (arith, length-take n bytes, fits) in
     Advances-run old new (take n bytes) run was is
-    (front ∙ ap (λ l. old.front ++ l) (sym (take_all room (take n bytes) short)))
+    (head ∙ ap (λ l. old.head ++ l) (sym (take_all room (take n bytes) short)))
     (over ∙ not_over old.over room (length (take n bytes)) short)
 
 -- an advance over a front, and one over a part of what follows it
@@ -131,30 +131,30 @@ data_within Negotiation b x begun gives = grind arith
 -- a byte of a command that gives data
 pub Advances-escaped : (old new : Kept) (b x : ℕ) → old.telnet ≢ Data → data_of old.telnet b ≡ x ∷ []
     → new.telnet ≡ telnet_after old.telnet b
-    → new.front ≡ old.front ++ take (kept_limit + 1 - length old.front) (x ∷ [])
-    → new.over ≡ (old.over || nat_lt (kept_limit + 1 - length old.front) 1) → Advances old new (b ∷ [])
-Advances-escaped old new b x begun gives is front over =
+    → new.head ≡ old.head ++ take (kept_limit + 1 - length old.head) (x ∷ [])
+    → new.over ≡ (old.over || nat_lt (kept_limit + 1 - length old.head) 1) → Advances old new (b ∷ [])
+Advances-escaped old new b x begun gives is head over =
     let only : data_along old.telnet (b ∷ []) ≡ x ∷ [] = rw gives refl in
     Advances-grown old new (b ∷ []) (record {
       telnet = is;
       unended = rw (only, data_within old.telnet b x begun gives) unended_255;
-      front = rw only front;
+      head = rw only head;
       over = rw only over;
     })
 
 -- a byte that gives no data
 pub Advances-silent : (old new : Kept) (b : ℕ) → data_of old.telnet b ≡ [] → new.telnet ≡ telnet_after old.telnet b
-    → new.front ≡ old.front → new.over ≡ old.over → Advances old new (b ∷ [])
-Advances-silent old new b gives is front over =
+    → new.head ≡ old.head → new.over ≡ old.over → Advances old new (b ∷ [])
+Advances-silent old new b gives is head over =
     let nothing : data_along old.telnet (b ∷ []) ≡ [] = rw gives refl in
     Advances-grown old new (b ∷ []) (record {
       telnet = is;
       unended = rw nothing unended_nil;
-      front =
+      head =
           rw nothing
-          (front ∙ sym (append-nil old.front)
-          ∙ ap (λ l. old.front ++ l) (sym (take_all (kept_limit + 1 - length old.front) [] zero-le)));
-      over = rw nothing (over ∙ or_none old.over (kept_limit + 1 - length old.front));
+          (head ∙ sym (append-nil old.head)
+          ∙ ap (λ l. old.head ++ l) (sym (take_all (kept_limit + 1 - length old.head) [] zero-le)));
+      over = rw nothing (over ∙ or_none old.over (kept_limit + 1 - length old.head));
     })
   where
     or_none : (b : Bool) (n : ℕ) → b ≡ (b || nat_lt n 0)
@@ -163,9 +163,9 @@ Advances-silent old new b gives is front over =
 
 -- the first byte of a command
 pub Advances-opened : (old new : Kept) (b : ℕ) → b ≡ 255 → old.telnet ≡ Data → new.telnet ≡ Command
-    → new.front ≡ old.front → new.over ≡ old.over → Advances old new (b ∷ [])
-Advances-opened old new b at was is front over =
-    Advances-silent old new b (rw (was, at) refl) (is ∙ rw (was, at) refl) front over
+    → new.head ≡ old.head → new.over ≡ old.over → Advances old new (b ∷ [])
+Advances-opened old new b at was is head over =
+    Advances-silent old new b (rw (was, at) refl) (is ∙ rw (was, at) refl) head over
 
 -- a part of a piece, and more of it
 pub Advances-taken : (u v w : Kept) (piece : List ℕ) (at more : ℕ) → Advances u v (take at piece)

@@ -18,22 +18,22 @@ use Rattle.fibs_lines.proofs.ReturnLemmas.{kept_line_is}
 
 -- the value of a `Lines`, but for the line
 abbrev pub kept_of : LinesValue → Kept
-kept_of v = record { telnet = v.telnet; front = v.front; over = v.over }
+kept_of v = record { telnet = v.telnet; head = v.head; over = v.over }
 
 -- what is kept after a stream is reached by it
 pub StandsAfter-from_kept : (v : LinesValue) (s : List ℕ) → KeptAfter (kept_of v) s → StandsAfter v s
 unfolding StandsAfter
-StandsAfter-from_kept v s h = (h.telnet, h.front, h.over)
+StandsAfter-from_kept v s h = (h.telnet, h.head, h.over)
 
 -- what is after a stream is kept after it
 pub KeptAfter-from_stands : (v : LinesValue) (s : List ℕ) → StandsAfter v s → KeptAfter (kept_of v) s
 unfolding StandsAfter
-KeptAfter-from_stands v s h = record { telnet = h.0; front = h.1; over = h.2 }
+KeptAfter-from_stands v s h = record { telnet = h.0; head = h.1; over = h.2 }
 
 -- nothing has come
-pub KeptAfter_none : (v : Kept) → v ≡ record { telnet = Data; front = []; over = false } → KeptAfter v []
+pub KeptAfter_none : (v : Kept) → v ≡ record { telnet = Data; head = []; over = false } → KeptAfter v []
 unfolding telnet_of rest_of plain
-KeptAfter_none v e = subst (λ k. KeptAfter k []) (sym e) (record { telnet = refl; front = refl; over = refl })
+KeptAfter_none v e = subst (λ k. KeptAfter k []) (sym e) (record { telnet = refl; head = refl; over = refl })
 
 -- the whole piece was taken
 pub Feeds_whole : (old new : Kept) (s piece : List ℕ) → Advances old new piece → KeptAfter old s
@@ -74,24 +74,24 @@ module _ (old new : Kept) (s piece : List ℕ) (at : ℕ) (a : AdvancesToEnd old
   }
 
   -- the line was lent
-  pub Feeds_line : (line : Line) → value_of line ≡ kept_line new.front new.over
+  pub Feeds_line : (line : Line) → value_of line ≡ kept_line new.head new.over
       → Feeds s piece (record { used = at + 1; line = Some line })
   Feeds_line line e = record {
     in_range = omega (arith, a.in_range);
     gains = ap lines_of split ∙ lines_of_end (s ++ take at piece) (10 ∷ []) gives
         ∙ ap (λ l. l ++ line_of (rest_of (s ++ take at piece)) ∷ []) (a.advances.same_lines s h)
         ∙ ap (λ l. lines_of s ++ l ∷ [])
-        (sym (e ∙ kept_line_is new.front (rest_of (s ++ take at piece)) new.over stood.front stood.over));
+        (sym (e ∙ kept_line_is new.head (rest_of (s ++ take at piece)) new.over stood.head stood.over));
     shortest = λ n l. lines_of_before s piece n at (omega arith) (a.advances.same_lines s h);
     whole = λ none. absurd (true≢false none);
     starts = λ _. starts_line;
   }
 
   -- and nothing is kept
-  pub KeptAfter_line : KeptAfter (record { telnet = new.telnet; front = []; over = false }) (s ++ take (at + 1) piece)
+  pub KeptAfter_line : KeptAfter (record { telnet = new.telnet; head = []; over = false }) (s ++ take (at + 1) piece)
   KeptAfter_line = record {
     telnet = a.no_command ∙ sym starts_line.no_command;
-    front = ap (take (kept_limit + 1)) (sym starts_line.no_rest);
+    head = ap (take (kept_limit + 1)) (sym starts_line.no_rest);
     over = ap (λ r. nat_lt (kept_limit + 1) (length r)) (sym starts_line.no_rest);
   }
 
@@ -114,14 +114,14 @@ take_fewer : (n m : ℕ) (r : List ℕ) → m ≡ suc n → take n (take m r) �
 take_fewer n m r e = ap (λ k. take n (take k r)) e ∙ take_one_less n r
 
 -- what is held
-pub bytes_of_front : (v : Kept) (s : List ℕ) → KeptAfter v s → take kept_limit v.front ≡ take kept_limit (rest_of s)
-bytes_of_front v s h =
-    ap (take kept_limit) h.front ∙ take_fewer kept_limit (kept_limit + 1) (rest_of s) (omega arith)
+pub bytes_of_head : (v : Kept) (s : List ℕ) → KeptAfter v s → take kept_limit v.head ≡ take kept_limit (rest_of s)
+bytes_of_head v s h =
+    ap (take kept_limit) h.head ∙ take_fewer kept_limit (kept_limit + 1) (rest_of s) (omega arith)
 
 -- how much is held
-pub held_of_front : (v : Kept) (s : List ℕ) → KeptAfter v s
-    → min (length v.front) kept_limit ≡ min kept_limit (length (rest_of s))
-held_of_front v s h =
-    let long : length v.front ≡ min (kept_limit + 1) (length (rest_of s)) =
-    ap length h.front ∙ length-take (kept_limit + 1) (rest_of s) in
+pub held_of_head : (v : Kept) (s : List ℕ) → KeptAfter v s
+    → min (length v.head) kept_limit ≡ min kept_limit (length (rest_of s))
+held_of_head v s h =
+    let long : length v.head ≡ min (kept_limit + 1) (length (rest_of s)) =
+    ap length h.head ∙ length-take (kept_limit + 1) (rest_of s) in
     omega arith

@@ -60,15 +60,15 @@ read_line limit line over =
     record { bytes = without_prompts (take limit line); cut = over || nat_lt limit (length line) }
 
 -- the line that is read from what is kept is that of the whole rest
-read_line_is : (limit room : ℕ) (front r : List ℕ) (over : Bool) → room ≡ suc limit → front ≡ take room r
+read_line_is : (limit room : ℕ) (head r : List ℕ) (over : Bool) → room ≡ suc limit → head ≡ take room r
     → over ≡ nat_lt room (length r)
-    → read_line limit (without_return front) over ≡ read_line limit (without_return r) false
-read_line_is limit room front r over e f o =
+    → read_line limit (without_return head) over ≡ read_line limit (without_return r) false
+read_line_is limit room head r over e f o =
     same_read_line _ _
     (ap without_prompts
     (ap (λ l. take limit (without_return l)) f ∙ ap (λ n. take limit (without_return (take n r))) e
     ∙ take-without_return limit r))
-    (ap (λ b. b || nat_lt limit (length (without_return front))) o
+    (ap (λ b. b || nat_lt limit (length (without_return head))) o
     ∙ ap (λ l. nat_lt room (length r) || nat_lt limit (length (without_return l))) f
     ∙ over-without_return limit room r e)
 
@@ -119,10 +119,10 @@ pub strip-is : (l : List ℕ) → strip_carriage_return l ≡ without_return l
 strip-is l = strip_cases l (eqb (get_or l (length l - 1) 0) 13) refl
 
 -- the line that ends after r
-pub kept_line_is : (front r : List ℕ) (over : Bool) → front ≡ take (kept_limit + 1) r
-    → over ≡ nat_lt (kept_limit + 1) (length r) → kept_line front over ≡ line_of r
+pub kept_line_is : (head r : List ℕ) (over : Bool) → head ≡ take (kept_limit + 1) r
+    → over ≡ nat_lt (kept_limit + 1) (length r) → kept_line head over ≡ line_of r
 unfolding line_of
-kept_line_is front r over f o =
-    ap (λ l. read_line kept_limit l over) (strip-is front)
-    ∙ read_line_is kept_limit (kept_limit + 1) front r over refl f o
+kept_line_is head r over f o =
+    ap (λ l. read_line kept_limit l over) (strip-is head)
+    ∙ read_line_is kept_limit (kept_limit + 1) head r over refl f o
     ∙ ap (λ l. read_line kept_limit l false) (sym (strip-is r))

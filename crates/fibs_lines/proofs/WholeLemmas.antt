@@ -60,12 +60,12 @@ literal_kept l h =
 
 -- a reader that keeps nothing
 abbrev nothing : Kept
-nothing = record { telnet = Data; front = []; over = false }
+nothing = record { telnet = Data; head = []; over = false }
 
 -- what is kept of a line's bytes
 abbrev kept_bytes : List ℕ → Kept
 kept_bytes t =
-    record { telnet = Data; front = take (kept_limit + 1) t; over = nat_lt (kept_limit + 1) (length t) }
+    record { telnet = Data; head = take (kept_limit + 1) t; over = nat_lt (kept_limit + 1) (length t) }
 
 module _ (piece : List ℕ) (len at : ℕ) (h : IsLiteralTo piece len) (e : IsEndAfter piece len at) where
   -- no line ends before the place, and no command begins
@@ -113,18 +113,18 @@ module _ (piece : List ℕ) (len at : ℕ) (h : IsLiteralTo piece len) (e : IsEn
 
   -- the line is that of what is kept
   whole_line_of : limited (take len piece) false
-      ≡ kept_line (kept_bytes (take at piece)).front (kept_bytes (take at piece)).over
+      ≡ kept_line (kept_bytes (take at piece)).head (kept_bytes (take at piece)).over
   unfolding line_of
   whole_line_of =
       let kept = kept_bytes (take at piece) in
-      ap (λ l. limited l false) (sym whole_text) ∙ sym (kept_line_is kept.front (take at piece) kept.over refl refl)
+      ap (λ l. limited l false) (sym whole_text) ∙ sym (kept_line_is kept.head (take at piece) kept.over refl refl)
 
 -- the value of a reader that keeps nothing
-pub same_kept : (v : LinesValue) → v.telnet ≡ Data → v.front ≡ [] → v.over ≡ false → kept_of v ≡ nothing
+pub same_kept : (v : LinesValue) → v.telnet ≡ Data → v.head ≡ [] → v.over ≡ false → kept_of v ≡ nothing
 same_kept v t f o =
-    ap (λ (k : Telnet). record { telnet = k; front = v.front; over = v.over }) t
-    ∙ ap (λ (l : List ℕ). record { telnet = Data; front = l; over = v.over }) f
-    ∙ ap (λ (b : Bool). record { telnet = Data; front = []; over = b }) o
+    ap (λ (k : Telnet). record { telnet = k; head = v.head; over = v.over }) t
+    ∙ ap (λ (l : List ℕ). record { telnet = Data; head = l; over = v.over }) f
+    ∙ ap (λ (b : Bool). record { telnet = Data; head = []; over = b }) o
 
 module _ (v : LinesValue) (piece : List ℕ) (len at : ℕ) (empty : kept_of v ≡ nothing) (h : IsLiteralTo piece len)
     (e : IsEndAfter piece len at) (s : List ℕ) (stands : StandsAfter v s) where

@@ -29,17 +29,17 @@ window_cut old bytes at run wide within =
     ∙ window_taken old _ bytes at run refl
 
 -- what is taken of a run grows by a window
-pub window_more : (old front now bytes : List ℕ) (at : ℕ) → front ≡ old ++ take at bytes
-    → now ≡ front ++ take 64 (drop at bytes) → now ≡ old ++ take (at + 64) bytes
-window_more old front now bytes at taken more =
+pub window_more : (old head now bytes : List ℕ) (at : ℕ) → head ≡ old ++ take at bytes
+    → now ≡ head ++ take 64 (drop at bytes) → now ≡ old ++ take (at + 64) bytes
+window_more old head now bytes at taken more =
     window_taken old now bytes at 64 (more ∙ ap (λ l. l ++ take 64 (drop at bytes)) taken)
 
 -- or by the front of one
-pub window_part : (old front now cut bytes : List ℕ) (at start run : ℕ) → front ≡ old ++ take at bytes
-    → start ≡ length front → now ≡ front ++ take 64 (drop at bytes) → cut ≡ take (start + run) now → run ≤ 64
+pub window_part : (old head now cut bytes : List ℕ) (at start run : ℕ) → head ≡ old ++ take at bytes
+    → start ≡ length head → now ≡ head ++ take 64 (drop at bytes) → cut ≡ take (start + run) now → run ≤ 64
     → cut ≡ old ++ take (at + run) bytes
-window_part old front now cut bytes at start run taken here more kept within =
-    kept ∙ ap (λ n. take (n + run) now) here ∙ ap (take (length front + run)) more
+window_part old head now cut bytes at start run taken here more kept within =
+    kept ∙ ap (λ n. take (n + run) now) here ∙ ap (take (length head + run)) more
     ∙ ap (λ l. take (length l + run) (l ++ take 64 (drop at bytes))) taken ∙ window_cut old bytes at run 64 within
 
 -- a byte that ends the run, or the bytes after it

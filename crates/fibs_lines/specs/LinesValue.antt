@@ -12,7 +12,7 @@ pub record LinesValue : Type 0 where
   -- how much of a telnet command has come
   pub telnet : Telnet
   -- the first bytes after the last line end
-  pub front : List ℕ
+  pub head : List ℕ
   -- whether more bytes came after these
   pub over : Bool
   -- the line that the last call of `feed` lent, if that was the last call and it lent one
@@ -23,7 +23,7 @@ pub record LinesValue : Type 0 where
 unfoldable pub StandsAfter : LinesValue → List ℕ → Type 0
 StandsAfter v s =
     (v.telnet ≡ telnet_of s)
-    × (v.front ≡ take (kept_limit + 1) (rest_of s))
+    × (v.head ≡ take (kept_limit + 1) (rest_of s))
     × (v.over ≡ nat_lt (kept_limit + 1) (length (rest_of s)))
 
 -- ---- the `Lines` of the program as this value
@@ -35,10 +35,10 @@ limited line over =
 
 -- the same, but one CR at their end belongs to the line's end
 abbrev pub kept_line : List ℕ → Bool → ReadLine
-kept_line front over = limited (strip_carriage_return front) over
+kept_line head over = limited (strip_carriage_return head) over
 
 -- the bytes of a line that was lent stay where they are until the next call, and count as gone
 abbrev pub lines_value : Unfinished → Bool → LinesValue
 lines_value u lent =
-    if lent then record { telnet = u.telnet; front = []; over = false; line = Some (kept_line u.front u.over) }
-    else record { telnet = u.telnet; front = u.front; over = u.over; line = None }
+    if lent then record { telnet = u.telnet; head = []; over = false; line = Some (kept_line u.head u.over) }
+    else record { telnet = u.telnet; head = u.head; over = u.over; line = None }

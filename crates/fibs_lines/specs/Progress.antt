@@ -24,17 +24,17 @@ data_of Negotiation b = []
 -- there are more
 pub record Kept : Type 0 where
   pub telnet : Telnet
-  pub front : List ℕ
+  pub head : List ℕ
   pub over : Bool
 
 -- the fields of an `Unfinished`
 abbrev pub kept : Unfinished → Kept
-kept u = record { telnet = u.telnet; front = u.front; over = u.over }
+kept u = record { telnet = u.telnet; head = u.head; over = u.over }
 
 -- this is kept after the stream s
 pub record KeptAfter (v : Kept) (s : List ℕ) : Type 0 where
   pub telnet : v.telnet ≡ telnet_of s
-  pub front : v.front ≡ take (kept_limit + 1) (rest_of s)
+  pub head : v.head ≡ take (kept_limit + 1) (rest_of s)
   pub over : v.over ≡ nat_lt (kept_limit + 1) (length (rest_of s))
 
 -- whenever old is kept, new is kept after t more, in which no line ends

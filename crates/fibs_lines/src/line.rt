@@ -56,10 +56,10 @@ impl<'a> Line<'a> {
         }
     }
 
-    /// The line that begins with `front`, and goes on after it if it is `over`.
-    pub(crate) fn from_front(front: &'a [u8], over: bool) -> Line<'a>
-        ensures { value_of result ≡ kept_line front.now over }
+    /// The line that begins with `head`, and goes on after it if it is `over`.
+    pub(crate) fn from_head(head: &'a [u8], over: bool) -> Line<'a>
+        ensures { value_of result ≡ kept_line head.now over }
     {
-        Line::limited(without_return(front), over)
+        Line::limited(without_return(head), over)
     }
 }

@@ -115,12 +115,12 @@ impl Lines {
 
     /// True if nothing is kept of an unfinished line or command.
     fn keeps_nothing(&self) -> bool
-        ensures { OnTrue result ((self.now.telnet ≡ Telnet.Data) × (self.now.front ≡ []) × (self.now.over ≡ false)) }
+        ensures { OnTrue result ((self.now.telnet ≡ Telnet.Data) × (self.now.head ≡ []) × (self.now.over ≡ false)) }
     {
         if self.unfinished.telnet != Telnet::Data {
             return false;
         }
-        self.lent || (self.unfinished.front.is_empty() && !self.unfinished.over)
+        self.lent || (self.unfinished.head.is_empty() && !self.unfinished.over)
     }
 
     /// The line that `piece` begins with, lent from the piece, if it ends in the piece too, its bytes are from 32 to
@@ -185,7 +185,7 @@ impl Lines {
         if self.lent {
             return 0;
         }
-        self.unfinished.front.len().min(LIMIT)
+        self.unfinished.head.len().min(LIMIT)
     }
 
     /// The bytes that follow the last line end, without telnet commands and up to `LIMIT`: those that `held` counts.
@@ -198,7 +198,7 @@ impl Lines {
         if self.lent {
             return b"";
         }
-        let front = self.unfinished.front.as_slice();
-        &front[..front.len().min(LIMIT)]
+        let head = self.unfinished.head.as_slice();
+        &head[..head.len().min(LIMIT)]
     }
 }

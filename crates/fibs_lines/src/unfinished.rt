@@ -18,7 +18,7 @@ use std::simd::prelude::*;
 pub(crate) struct Unfinished {
     pub(crate) telnet: Telnet,
     /// The first bytes.
-    pub(crate) front: LineBuffer,
+    pub(crate) head: LineBuffer,
     /// Whether there are more.
     pub(crate) over: bool,
 }
@@ -81,23 +81,23 @@ fn ends(window: u8x64) -> u64
 /// Takes the windows at the front of `bytes`, each before it is searched, as long as there is room for another, up to a
 /// byte that ends the run. It answers how many bytes were taken, and whether such a byte follows them.
 #[inline(always)]
-fn take_windows(front: &mut LineBuffer, bytes: &[u8]) -> (usize, bool)
-    ensures taken { front.new ≡ front.old ++ take result.0 bytes.now }
+fn take_windows(head: &mut LineBuffer, bytes: &[u8]) -> (usize, bool)
+    ensures taken { head.new ≡ head.old ++ take result.0 bytes.now }
     ensures in_range { result.0 ≤ length bytes.now }
-    ensures fits { length front.old + result.0 ≤ ROOM }
+    ensures fits { length head.old + result.0 ≤ ROOM }
     ensures run { IsRun (take result.0 bytes.now) }
     ensures ends { result.1 ≡ true → (result.0 < length bytes.now)
         × (ends_run (slice_index bytes.now result.0) ≡ true) }
 {
-    let room = front.room();
+    let room = head.room();
     let mut at = 0;
     while bytes.len() - at >= TAKEN && room - at >= TAKEN {
-        let start = front.len();
-        front.append(&bytes[at..at + TAKEN]);
+        let start = head.len();
+        head.append(&bytes[at..at + TAKEN]);
         let found = ends(u8x64::from_slice(&bytes[at..]));
         if found != 0 {
             let run = found.trailing_zeros() as usize;
-            front.truncate(start + run);
+            head.truncate(start + run);
             return (at + run, true);
         }
         at += TAKEN;
@@ -112,26 +112,26 @@ impl Unfinished {
 
     /// Nothing is kept.
     pub(crate) fn new() -> Unfinished
-        ensures { kept result ≡ record { telnet = Telnet.Data; front = []; over = false } }
+        ensures { kept result ≡ record { telnet = Telnet.Data; head = []; over = false } }
     {
         Unfinished {
             telnet: Telnet::Data,
-            front: LineBuffer::new(),
+            head: LineBuffer::new(),
             over: false,
         }
     }
 
     /// Forgets the line, and not the command.
     pub(crate) fn clear(&mut self)
-        ensures { kept self.new ≡ record { telnet = self.old.telnet; front = []; over = false } }
+        ensures { kept self.new ≡ record { telnet = self.old.telnet; head = []; over = false } }
     {
-        self.front.clear();
+        self.head.clear();
         self.over = false;
     }
 
     /// Forgets the line and the command.
     pub(crate) fn reset(&mut self)
-        ensures { kept self.new ≡ record { telnet = Telnet.Data; front = []; over = false } }
+        ensures { kept self.new ≡ record { telnet = Telnet.Data; head = []; over = false } }
     {
         self.telnet = Telnet::Data;
         self.clear();
@@ -139,23 +139,23 @@ impl Unfinished {
 
     /// The line that has ended here.
     pub(crate) fn line(&self) -> Line<'_>
-        ensures { value_of result ≡ kept_line self.now.front self.now.over }
+        ensures { value_of result ≡ kept_line self.now.head self.now.over }
     {
-        Line::from_front(self.front.as_slice(), self.over)
+        Line::from_head(self.head.as_slice(), self.over)
     }
 
     /// Keeps what there is room for of `run`.
     fn keep(&mut self, run: &[u8])
         ensures telnet { self.new.telnet ≡ self.old.telnet }
-        ensures front { self.new.front ≡ self.old.front ++ take (ROOM - length self.old.front) run.now }
-        ensures over { self.new.over ≡ (self.old.over || nat_lt (ROOM - length self.old.front) (length run.now)) }
+        ensures head { self.new.head ≡ self.old.head ++ take (ROOM - length self.old.head) run.now }
+        ensures over { self.new.over ≡ (self.old.over || nat_lt (ROOM - length self.old.head) (length run.now)) }
     {
-        let room = self.front.room();
+        let room = self.head.room();
         if run.len() > room {
-            self.front.append(&run[..room]);
+            self.head.append(&run[..room]);
             self.over = true;
         } else {
-            self.front.append(run);
+            self.head.append(run);
         }
     }
 
@@ -168,14 +168,14 @@ impl Unfinished {
         ensures stops { result < length bytes.now → ends_run (slice_index bytes.now result) ≡ true }
         ensures advances { Advances (kept self.old) (kept self.new) (take result bytes.now) }
     {
-        let (front, ends) = take_windows(&mut self.front, bytes);
+        let (taken, ends) = take_windows(&mut self.head, bytes);
         if ends {
-            return front;
+            return taken;
         }
-        let rest = &bytes[front..];
+        let rest = &bytes[taken..];
         let run = run_len(rest);
         self.keep(&rest[..run]);
-        front + run
+        taken + run
     }
 
     /// Takes a byte of a command.

@@ -10,8 +10,8 @@ ghost use Rattle.fibs_messages.specs.Message.{own_info_fields, who_info_fields};
 use crate::field::{Field, FieldList, own_info_fields, who_info_fields};
 use crate::laws::messages_are_well_formed;
 use crate::message::{Message, OwnInfo, WhoInfo};
+use fibs_fields::decimal::append_number;
 use fibs_fields::rating::append_rating;
-use itoa::Buffer;
 use std::alloc::{AllocError, Global};
 
 /// Appends a space and the bytes.
@@ -50,7 +50,8 @@ fn append_count(out: &mut Vec<u8>, count: u64) -> Result<(), AllocError>
     ensures put { OnOk result (out.new.items ≡ out.old.items ++ canonical_field (NumberField count)) }
     ensures front { take (length out.old.items) out.new.items ≡ out.old.items }
 {
-    append_piece(out, Buffer::new().format(count).as_bytes())
+    out.push(b' ')?;
+    append_number(count, out)
 }
 
 /// Appends a space and the text, or nothing if it is empty.
@@ -82,21 +83,13 @@ fn append_field(out: &mut Vec<u8>, field: &Field<'_>) -> Result<(), AllocError>
     }
 }
 
-/// Appends the number of a message.
-fn append_number(out: &mut Vec<u8>, number: u8) -> Result<(), AllocError>
-    ensures put { OnOk result (out.new.items ≡ out.old.items ++ decimal number) }
-    ensures front { take (length out.old.items) out.new.items ≡ out.old.items }
-{
-    out.extend_from_slice(Buffer::new().format(number).as_bytes())
-}
-
 /// Appends the number of a message and its fields.
 fn append_fields(out: &mut Vec<u8>, number: u8, fields: &[Field<'_>]) -> Result<(), AllocError>
     ensures put { OnOk result (out.new.items ≡ out.old.items
         ++ (decimal number ++ flat_map canonical_field (values_of fields.now))) }
     ensures front { take (length out.old.items) out.new.items ≡ out.old.items }
 {
-    append_number(out, number)?;
+    append_number(number, out)?;
     for field in fields {
         append_field(out, field)?;
     }

@@ -1,5 +1,5 @@
 //! Whose turn it is and who may double next, by the names of the players: beside a board that the user watches.
-ghost use Rattle.std.specs.Prelude.{◌≡◌, ◌++◌, ◌∷◌, [], OnOk, codes, take};
+ghost use Rattle.std.specs.Prelude.{◌++◌, ◌∷◌, [], OnOk, codes, take};
 ghost use Rattle.std.specs.Fmt.{signed_decimal};
 ghost use Rattle.std.specs.Io.KnownBytes.{Appends};
 ghost use Rattle.fibs_boards.specs.Board.{field_of};
@@ -9,7 +9,7 @@ ghost use Rattle.fibs_picture.specs.Watched.{possessive, turn_of, watched_turn, 
 
 use crate::cells::{OTHER_LETTER, OWN_LETTER};
 use crate::fields::{is_one, number};
-use crate::words::{FREE_CUBE, NO_DOUBLING};
+use crate::words::{FREE_CUBE, NO_DOUBLING, first_of};
 use crate::writing::{write_digits, write_text};
 use fibs_boards::Board;
 use fibs_boards::fields::{COLOUR, CUBE, MAY_DOUBLE, OTHER_MAY_DOUBLE, TURN};
@@ -20,17 +20,6 @@ use std::io::Write;
 const TURN_ROOM: usize = 23;
 
 const CUBE_ROOM: usize = 14;
-
-/// So many bytes of a name at most.
-fn first_of(name: &[u8], room: usize) -> &[u8]
-    ensures { result.now ≡ take room name.now }
-{
-    if name.len() < room {
-        name
-    } else {
-        &name[..room]
-    }
-}
 
 /// Writes a letter, and that something is a player's.
 fn write_whose<W: Write>(letter: u8, name: &[u8], out: &mut W) -> io::Result<()>

@@ -11,7 +11,11 @@ ghost use Rattle.fibs_picture.specs.Picture.{line, upper_lines, player_lines, bo
 ghost use Rattle.fibs_picture.specs.Watched.{watched_lines, watched_picture};
 
 use crate::half::Half;
-use crate::lines::{Drawn, Written, draw_line};
+use crate::lines::Drawn::{Edge, Layer, Margin, Middle};
+use crate::lines::Written::{
+    Cube, Deed, Dice, Length, Name, Off, Pips, Score, Turn, WatchedCube, WatchedTurn,
+};
+use crate::lines::draw_line;
 use fibs_boards::Board;
 use fibs_position::{GameBoard, Position, WatchedBoard};
 use std::io;
@@ -23,36 +27,12 @@ fn draw_upper<W: Write>(board: &Board, position: &Position, out: &mut W) -> io::
         (flat_map line (opponent_lines (fields_of board.now) (position_value position.now)))) }
 {
     let half = Half::Upper;
-    draw_line(board, position, Drawn::Edge(half), Written::Name(half), out)?;
-    draw_line(
-        board,
-        position,
-        Drawn::Layer(half, 1),
-        Written::Score(half),
-        out,
-    )?;
-    draw_line(
-        board,
-        position,
-        Drawn::Layer(half, 2),
-        Written::Off(half),
-        out,
-    )?;
-    draw_line(
-        board,
-        position,
-        Drawn::Layer(half, 3),
-        Written::Pips(half),
-        out,
-    )?;
-    draw_line(
-        board,
-        position,
-        Drawn::Layer(half, 4),
-        Written::Dice(half),
-        out,
-    )?;
-    draw_line(board, position, Drawn::Layer(half, 5), Written::Length, out)
+    draw_line(board, position, Edge(half), Name(half), out)?;
+    draw_line(board, position, Layer(half, 1), Score(half), out)?;
+    draw_line(board, position, Layer(half, 2), Off(half), out)?;
+    draw_line(board, position, Layer(half, 3), Pips(half), out)?;
+    draw_line(board, position, Layer(half, 4), Dice(half), out)?;
+    draw_line(board, position, Layer(half, 5), Length, out)
 }
 
 /// The lines of the player below the one that says whose turn it is, down to the lower edge.
@@ -61,35 +41,11 @@ fn draw_below_turn<W: Write>(board: &Board, position: &Position, out: &mut W) ->
         (flat_map line (lines_below_turn (fields_of board.now) (position_value position.now)))) }
 {
     let half = Half::Lower;
-    draw_line(
-        board,
-        position,
-        Drawn::Layer(half, 4),
-        Written::Dice(half),
-        out,
-    )?;
-    draw_line(
-        board,
-        position,
-        Drawn::Layer(half, 3),
-        Written::Pips(half),
-        out,
-    )?;
-    draw_line(
-        board,
-        position,
-        Drawn::Layer(half, 2),
-        Written::Off(half),
-        out,
-    )?;
-    draw_line(
-        board,
-        position,
-        Drawn::Layer(half, 1),
-        Written::Score(half),
-        out,
-    )?;
-    draw_line(board, position, Drawn::Edge(half), Written::Name(half), out)
+    draw_line(board, position, Layer(half, 4), Dice(half), out)?;
+    draw_line(board, position, Layer(half, 3), Pips(half), out)?;
+    draw_line(board, position, Layer(half, 2), Off(half), out)?;
+    draw_line(board, position, Layer(half, 1), Score(half), out)?;
+    draw_line(board, position, Edge(half), Name(half), out)
 }
 
 /// The lines of the player, down to the lower edge.
@@ -97,8 +53,7 @@ fn draw_lower<W: Write>(board: &Board, position: &Position, out: &mut W) -> io::
     ensures { OnOk result (Appends (W.contents out.old) (W.contents out.new)
         (flat_map line (player_lines (fields_of board.now) (position_value position.now)))) }
 {
-    let turn = Drawn::Layer(Half::Lower, 5);
-    draw_line(board, position, turn, Written::Turn, out)?;
+    draw_line(board, position, Layer(Half::Lower, 5), Turn, out)?;
     draw_below_turn(board, position, out)
 }
 
@@ -110,7 +65,7 @@ fn draw_lines<W: Write>(board: &Board, position: &Position, out: &mut W) -> io::
         (flat_map line (upper_lines b p) ++ flat_map line (player_lines b p))) }
 {
     draw_upper(board, position, out)?;
-    draw_line(board, position, Drawn::Middle, Written::Cube, out)?;
+    draw_line(board, position, Middle, Cube, out)?;
     draw_lower(board, position, out)
 }
 
@@ -133,7 +88,7 @@ pub fn draw<W: Write>(game: &GameBoard, out: &mut W) -> io::Result<()>
     draw_board(game, out)?;
     let board = game.board();
     let position = game.position();
-    draw_line(board, position, Drawn::Margin, Written::Deed, out)
+    draw_line(board, position, Margin, Deed, out)
 }
 
 /// What is drawn of a watched board whose position is this.
@@ -142,10 +97,9 @@ fn draw_watched_lines<W: Write>(board: &Board, position: &Position, out: &mut W)
     ensures { OnOk result (Appends (W.contents out.old) (W.contents out.new)
         (flat_map line (watched_lines (fields_of board.now) (position_value position.now)))) }
 {
-    let turn = Drawn::Layer(Half::Lower, 5);
     draw_upper(board, position, out)?;
-    draw_line(board, position, Drawn::Middle, Written::WatchedCube, out)?;
-    draw_line(board, position, turn, Written::WatchedTurn, out)?;
+    draw_line(board, position, Middle, WatchedCube, out)?;
+    draw_line(board, position, Layer(Half::Lower, 5), WatchedTurn, out)?;
     draw_below_turn(board, position, out)
 }
 

@@ -24,24 +24,31 @@ pub const OPPONENTS_TURN: &[u8] = b"the opponent's turn";
 /// How many bytes of a name are shown.
 const NAME_ROOM: usize = 30;
 
-/// What is shown of a name: 30 bytes of it at most.
-pub fn front(name: &[u8]) -> &[u8]
-    ensures { result.now ≡ take 30 name.now }
+/// So many bytes of a name at most.
+pub fn first_of(name: &[u8], room: usize) -> &[u8]
+    ensures { result.now ≡ take room name.now }
 {
-    if name.len() < NAME_ROOM {
+    if name.len() < room {
         name
     } else {
-        &name[..NAME_ROOM]
+        &name[..room]
     }
 }
 
-/// A letter and the front of a name, and the line's end.
+/// What is shown of a name: 30 bytes of it at most.
+pub fn shown_name(name: &[u8]) -> &[u8]
+    ensures { result.now ≡ take 30 name.now }
+{
+    first_of(name, NAME_ROOM)
+}
+
+/// A letter and what is shown of a name, and the line's end.
 #[tactic(auto, unfolding(crate::specs::Picture::named))]
 pub fn write_name<W: Write>(letter: u8, name: &[u8], out: &mut W) -> io::Result<()>
     ensures { OnOk result (Appends (W.contents out.old) (W.contents out.new) (named letter name.now ++ 10 ∷ [])) }
 {
     write_text(&[letter, b' '], out)?;
-    write_text(front(name), out)?;
+    write_text(shown_name(name), out)?;
     write_text(b"\n", out)
 }
 

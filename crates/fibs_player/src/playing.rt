@@ -77,20 +77,11 @@ fn answer_at_terminal<D: Dial, R: Read, V: Watch, W: Write + Drop, C: Clock + Dr
     watch: &mut V,
     front: &mut Terminal<'_, W, C>,
     orders_roll: bool,
+    is_due: &Cell<bool>,
 ) -> Result<u8, EngineFault> {
-    let is_due = Cell::new(false);
-    let mut server = OrderedServer::new(server, orders_roll, &is_due);
-    let mut input = OrderedInput::new(input, &is_due);
-    let mut watch = OrderedWatch::new(watch, &is_due);
-    let answer = answer_lines(
-        &mut server,
-        alloc,
-        login,
-        lines,
-        &mut input,
-        &mut watch,
-        front,
-    );
+    let mut server = OrderedServer::new(server, orders_roll, is_due);
+    let mut watch = OrderedWatch::new(watch, is_due);
+    let answer = answer_lines(&mut server, alloc, login, lines, input, &mut watch, front);
     let status = unless_memory_ran_out(answer, front)?;
     front.leave()?;
     Ok(status)
@@ -111,7 +102,10 @@ fn play_at_terminal<D: Dial, R: Read, V: Watch>(
     let shown = terminal_settings(rt, clocks.zone(), call.host, call.port);
     let mut lines = TypedLines::new(MOST_INPUT_READS);
     let mut line = TypedLine::new();
-    lines.read_line(input, &mut line)?;
+    // what is read with the password may begin a line
+    let is_due = Cell::new(false);
+    let mut input = OrderedInput::new(input, &is_due);
+    lines.read_line(&mut input, &mut line)?;
     let login = match Login::new(call.name.as_bytes(), line.as_slice()) {
         Err(why) => return say_login_fault(rt, why),
         Ok(login) => login,
@@ -124,10 +118,11 @@ fn play_at_terminal<D: Dial, R: Read, V: Watch>(
         alloc,
         login,
         &mut lines,
-        input,
+        &mut input,
         watch,
         &mut front,
         config.orders_roll(),
+        &is_due,
     )
 }
 

@@ -6,18 +6,11 @@ use fibs_engine::limits::READ_PORTION;
 use fibs_front::fault::FrontFault;
 use fibs_front::front::Front;
 use fibs_front::said::Said;
+use fibs_history::read_line;
 use fibs_lines::{Line, Lines};
-use fibs_messages::{Reading, read};
+use fibs_messages::Reading;
 use fibs_position::GameBoard;
 use std::io::Read;
-
-/// What a line is. A line that was cut is a text.
-fn reading<'a>(line: &Line<'a>) -> Reading<'a> {
-    if line.cut {
-        return Reading::Text(line.bytes);
-    }
-    read(line.bytes)
-}
 
 /// The board that a reading says, with its position, if the user plays in its game.
 fn game_in(reading: &Reading<'_>) -> Option<GameBoard> {
@@ -29,7 +22,7 @@ fn game_in(reading: &Reading<'_>) -> Option<GameBoard> {
 
 /// Reports a line, and the board of the user's game that it says.
 fn tell_line<F: Front>(line: &Line<'_>, front: &mut F) -> Result<(), FrontFault> {
-    let reading = reading(line);
+    let reading = read_line(line);
     let found = game_in(&reading);
     let game = found.as_ref();
     front.tell(&Said::Heard(&*line, &reading, game))?;

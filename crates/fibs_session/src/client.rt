@@ -8,6 +8,7 @@ ghost use Rattle.std.specs.Prelude.{◌≡◌, IsErr, ◌<◌, ◌≤◌, Option
 ghost use Rattle.fibs_lines.specs.Lines.{kept_limit, rest_of};
 ghost use Rattle.fibs_boards.specs.StoredBoard.{fields_of};
 ghost use Rattle.fibs_position.specs.DecisionValue.{decision_of};
+ghost use Rattle.fibs_position.specs.DirectionOf.{direction_of};
 ghost use Rattle.fibs_position.specs.GameOf.{game_of};
 ghost use Rattle.fibs_session.specs.Calls.Doing.{Does};
 ghost use Rattle.fibs_session.specs.Calls.Standing.{StandsAfter};
@@ -31,7 +32,7 @@ use fibs_boards::Board;
 use fibs_commands::{CommandText, Login, Plain};
 use fibs_history::{PlainRefusal, Refusal};
 use fibs_lines::Lines;
-use fibs_position::{Decision, GameBoard};
+use fibs_position::{Decision, Direction, GameBoard};
 pub use got::Got;
 use heard_line::Answer;
 pub use heard_line::HeardLine;
@@ -164,6 +165,16 @@ impl Client {
         ensures { (t : Talk) → StandsAfter self.now t → option_map game_of (option_copied result) ≡ shown_now t }
     {
         self.session.game()
+    }
+
+    /// Which way the player of the board that is shown goes by the numbers of the places; None if no board is shown.
+    pub fn direction(&self) -> Option<Direction>
+        ensures { (t : Talk) → StandsAfter self.now t → result ≡ option_map direction_of (shown_now t) }
+    {
+        match self.game() {
+            None => None,
+            Some(game) => Some(game.direction()),
+        }
     }
 
     /// The decision that waits, with the board on which it was made.

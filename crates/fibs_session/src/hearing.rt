@@ -24,7 +24,7 @@ use fibs_commands::{
     AnswerText, autoboard_text, board_text, moreboards_text, roll_text, style_text,
 };
 use fibs_lines::Line;
-use fibs_messages::{Message, OwnInfo, Reading, is_board_line, message_number, read};
+use fibs_messages::{Message, OwnInfo, Reading, is_board_line, message_number};
 use fibs_position::{Decision, GameBoard};
 
 /// What a session says to a line: the commands that are to be sent, the decision that is confirmed, and whether the
@@ -49,16 +49,6 @@ impl Reply {
             rolled: false,
         }
     }
-}
-
-/// The reading of a line. A line that was cut is a text.
-pub(crate) fn read_line<'a>(line: &Line<'a>) -> Reading<'a>
-    ensures { reading_of result ≡ line_reading (value_of line.now) }
-{
-    if line.cut {
-        return Reading::Text(line.bytes);
-    }
-    read(line.bytes)
 }
 
 /// Whether a line says nothing to a session: one that was cut, and each message but message 1 and message 2. Its fields

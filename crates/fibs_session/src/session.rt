@@ -17,11 +17,11 @@ ghost use Rattle.fibs_history.specs.Machine.{Order, Withdraw, order_refusal, wit
 ghost use Rattle.fibs_commands.specs.LoginOf.{login_of};
 ghost use Rattle.fibs_commands.specs.PlainOf.{plain_value};
 
-use crate::hearing::{Reply, read_line};
+use crate::hearing::Reply;
 use crate::taken::{Outstanding, Taken};
 use fibs_boards::Board;
 use fibs_commands::{CommandText, Login, Plain};
-use fibs_history::{PlainRefusal, Refusal};
+use fibs_history::{PlainRefusal, Refusal, read_line};
 use fibs_lines::Line;
 use fibs_position::{Decision, GameBoard, laws};
 

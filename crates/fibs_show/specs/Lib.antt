@@ -1,3 +1,2 @@
 pub mod Show
-pub mod Shows
 pub mod Plays

@@ -1,13 +1,12 @@
 -- What `fibs show` prints.
-use Rattle.std.specs.Prelude.{◌≡◌, ◌==◌, ℕ, Bool, true, false, min, List, [], ◌∷◌, ◌++◌, length, Option, codes}
+use Rattle.std.specs.Prelude.{◌≡◌, ◌==◌, ℕ, Bool, true, false, List, [], ◌∷◌, ◌++◌, Option, codes}
 use Rattle.std.specs.Prelude.{if◌then◌else◌}
 use Rattle.std.specs.Fmt.{decimal}
-use Rattle.std.specs.Io.KnownBytes.{Appends, Consumes}
-use Rattle.fibs_lines.specs.Lines.{ReadLine, lines_of, rest_of, kept_limit}
+use Rattle.fibs_lines.specs.Lines.{ReadLine}
 use Rattle.fibs_messages.specs.Line.{ReadingValue, IsReading}
 use Rattle.fibs_engine.specs.Escape.{escaped}
 use Rattle.fibs_engine.specs.Readings.{reading_text}
-use Rattle.fibs_engine.specs.Writing.{GainedFront}
+use Rattle.fibs_engine.specs.Streams as streams
 
 -- what is printed for a line: `cut` and its kept bytes if it was cut, else what it reads as
 abbrev pub ShownAs : Bool → List ℕ → List ℕ → Type 0
@@ -17,44 +16,30 @@ ShownAs false bytes text = (reading : ReadingValue) × IsReading bytes reading �
 abbrev pub ShownLine : ReadLine → List ℕ → Type 0
 ShownLine line text = ShownAs line.cut line.bytes text
 
--- what is printed for lines: that of each in turn, ended by a byte 10
-abbrev pub ShownLines : List ReadLine → List ℕ → Type 0
-ShownLines [] text = text ≡ []
-ShownLines (line ∷ lines) text =
-    (first rest : List ℕ) × ShownLine line first × ShownLines lines rest × (text ≡ first ++ (10 ∷ rest))
-
 -- what is printed at the end, if so many bytes follow the last line end
 abbrev pub unfinished_text : ℕ → List ℕ
 unfinished_text held = if held == 0 then [] else codes "unfinished " ++ (decimal held ++ (10 ∷ []))
 
--- all that is printed for a stream: its lines, and how many bytes are left over, at most as many as a line keeps
-abbrev pub ShowText : List ℕ → List ℕ → Type 0
-ShowText s text = (shown : List ℕ) × ShownLines (lines_of s) shown
-    × (text ≡ shown ++ unfinished_text (min kept_limit (length (rest_of s))))
-
 -- What a reader has left, and what a writer holds, is Some list if the prover knows its bytes, and else None: then the
--- next five definitions say nothing.
+-- next five definitions say nothing. They are those of fibs_engine, of these lines and this end.
 
 -- a reader was read to its end, and a writer gained all that is printed for its bytes
 abbrev pub WroteAll : Option (List ℕ) → Option (List ℕ) → Option (List ℕ) → Option (List ℕ) → Type 0
-WroteAll left still_left held now =
-    (s text : List ℕ) × Consumes left still_left s × ShowText s text × Appends held now text
+WroteAll left still_left held now = streams.WroteAll ShownLine unfinished_text left still_left held now
 
 -- a reader lost the bytes s and then `more`, and a writer gained just what is printed for the lines of s
 abbrev pub WroteLinesOf : List ℕ → List ℕ → Option (List ℕ) → Option (List ℕ) → Option (List ℕ) → Option (List ℕ)
     → Type 0
-WroteLinesOf s more left still_left held now = (text : List ℕ) × Consumes left still_left (s ++ more)
-    × ShownLines (lines_of s) text × Appends held now text
+WroteLinesOf s more left still_left held now = streams.WroteLinesOf ShownLine s more left still_left held now
 
 -- a writer gained just what is printed for the lines of all that was read
 abbrev pub WroteRead : Option (List ℕ) → Option (List ℕ) → Option (List ℕ) → Option (List ℕ) → Type 0
-WroteRead left still_left held now = (s : List ℕ) × WroteLinesOf s [] left still_left held now
+WroteRead left still_left held now = streams.WroteRead ShownLine left still_left held now
 
 -- a writer gained just what is printed for the lines of some front of what was read
 abbrev pub WroteLines : Option (List ℕ) → Option (List ℕ) → Option (List ℕ) → Option (List ℕ) → Type 0
-WroteLines left still_left held now = (s more : List ℕ) × WroteLinesOf s more left still_left held now
+WroteLines left still_left held now = streams.WroteLines ShownLine left still_left held now
 
 -- a writer gained a front of what is printed for what was read, and at least one byte of it is missing
 abbrev pub WroteFront : Option (List ℕ) → Option (List ℕ) → Option (List ℕ) → Option (List ℕ) → Type 0
-WroteFront left still_left held now =
-    (s text : List ℕ) × Consumes left still_left s × ShowText s text × GainedFront held now text
+WroteFront left still_left held now = streams.WroteFront ShownLine unfinished_text left still_left held now

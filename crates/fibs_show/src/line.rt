@@ -18,17 +18,10 @@ use fibs_copied_lines::canonical_line;
 use fibs_copied_lines::check::check_board;
 use fibs_engine::escape::{append_escaped, escape_from};
 use fibs_engine::malformed::malformed_text;
+pub use fibs_fields::decimal::append_number;
 use fibs_lines::Line;
 use fibs_messages::{Fault, Message, Reading, is_board_line, message_number, print_message, read};
-use itoa::{Buffer, Integer};
 use std::alloc::{AllocError, Global};
-
-/// Appends a number.
-pub fn append_number<I: Integer>(number: I, text: &mut Vec<u8>) -> Result<(), AllocError>
-    ensures { OnOk result (text.new.items ≡ text.old.items ++ I.text number) }
-{
-    text.extend_from_slice(Buffer::new().format(number).as_bytes())
-}
 
 /// Appends what is printed for a malformed line.
 fn append_malformed(

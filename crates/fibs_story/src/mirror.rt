@@ -10,7 +10,6 @@ use fibs_boards::Board;
 use fibs_boards::fields::{
     COLOUR, DIRECTION, FIRST_DIE, OTHER_FIRST_DIE, OTHER_OFF, OTHER_SECOND_DIE, OWN_OFF, SECOND_DIE,
 };
-use fibs_boards::laws::fields_have_their_ranges;
 
 /// The other colour, or the other direction.
 fn opposite(side: i32) -> i32
@@ -29,41 +28,37 @@ fn set(board: Board, field: usize, value: i32) -> Board
 }
 
 /// The board with colours and directions changed.
-#[tactic(auto, unfolding(crate::specs::Mirrored::turned))]
+#[tactic(auto, unfolding(crate::specs::Mirrored::turned, fibs_boards::specs::Board::field_values))]
 fn turned(board: &Board) -> Board
     ensures { fields_of result ≡ turned (fields_of board.now) }
 {
-    fields_have_their_ranges();
     let colour = set(*board, COLOUR, opposite(board.field(COLOUR)));
     set(colour, DIRECTION, opposite(board.field(DIRECTION)))
 }
 
 /// The board with the opponent's dice of another one as the player's.
-#[tactic(auto, unfolding(crate::specs::Mirrored::own_dice))]
+#[tactic(auto, unfolding(crate::specs::Mirrored::own_dice, fibs_boards::specs::Board::field_values))]
 fn with_own_dice(board: Board, of: &Board) -> Board
     ensures { fields_of result ≡ own_dice (fields_of of.now) (fields_of board) }
 {
-    fields_have_their_ranges();
     let first = set(board, FIRST_DIE, of.field(OTHER_FIRST_DIE));
     set(first, SECOND_DIE, of.field(OTHER_SECOND_DIE))
 }
 
 /// The board with the player's dice of another one as the opponent's.
-#[tactic(auto, unfolding(crate::specs::Mirrored::other_dice))]
+#[tactic(auto, unfolding(crate::specs::Mirrored::other_dice, fibs_boards::specs::Board::field_values))]
 fn with_other_dice(board: Board, of: &Board) -> Board
     ensures { fields_of result ≡ other_dice (fields_of of.now) (fields_of board) }
 {
-    fields_have_their_ranges();
     let first = set(board, OTHER_FIRST_DIE, of.field(FIRST_DIE));
     set(first, OTHER_SECOND_DIE, of.field(SECOND_DIE))
 }
 
 /// The board with the checkers borne off of another one, of the other side each.
-#[tactic(auto, unfolding(crate::specs::Mirrored::borne_off))]
+#[tactic(auto, unfolding(crate::specs::Mirrored::borne_off, fibs_boards::specs::Board::field_values))]
 fn with_borne_off(board: Board, of: &Board) -> Board
     ensures { fields_of result ≡ borne_off (fields_of of.now) (fields_of board) }
 {
-    fields_have_their_ranges();
     let own = set(board, OWN_OFF, of.field(OTHER_OFF));
     set(own, OTHER_OFF, of.field(OWN_OFF))
 }

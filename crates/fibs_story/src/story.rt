@@ -7,6 +7,7 @@ use fibs_boards::fields::{
     FIRST_DIE, MATCH_LENGTH, OTHER_FIRST_DIE, OTHER_SCORE, OWN_SCORE, SECOND_DIE,
 };
 use fibs_commands::decision_text;
+use fibs_fields::decimal::append_number;
 use fibs_position::{Decision, GameBoard, Phase, Play, differs};
 use itoa::Buffer;
 use std::alloc::{AllocError, Global};
@@ -176,12 +177,12 @@ impl Story {
 /// Appends how many turns come before those that are listed, and what to type for them.
 fn append_before(count: usize, text: &mut Vec<u8>) -> Result<(), AllocError> {
     text.extend_from_slice(b".. ")?;
-    text.extend_from_slice(Buffer::new().format(count).as_bytes())?;
+    append_number(count, text)?;
     text.extend_from_slice(b" before: moves all\n")
 }
 
 /// Appends a number at the right of its columns, and a full stop.
-fn append_number(number: usize, text: &mut Vec<u8>) -> Result<(), AllocError> {
+fn append_row_number(number: usize, text: &mut Vec<u8>) -> Result<(), AllocError> {
     let mut buffer = Buffer::new();
     let digits = buffer.format(number).as_bytes();
     for _ in digits.len()..NUMBER_COLUMNS {
@@ -206,9 +207,9 @@ fn append_roller(turn: &Turn, text: &mut Vec<u8>) -> Result<(), AllocError> {
 /// Appends what was rolled.
 fn append_dice(turn: &Turn, text: &mut Vec<u8>) -> Result<(), AllocError> {
     let board = turn.before.board();
-    text.extend_from_slice(Buffer::new().format(board.die(FIRST_DIE)).as_bytes())?;
+    append_number(board.die(FIRST_DIE), text)?;
     text.extend_from_slice(b" and ")?;
-    text.extend_from_slice(Buffer::new().format(board.die(SECOND_DIE)).as_bytes())?;
+    append_number(board.die(SECOND_DIE), text)?;
     text.extend_from_slice(b":")
 }
 
@@ -236,7 +237,7 @@ fn append_turn(
     number: usize,
     text: &mut Vec<u8>,
 ) -> Result<(), AllocError> {
-    append_number(number, text)?;
+    append_row_number(number, text)?;
     append_roller(turn, text)?;
     append_dice(turn, text)?;
     append_play(

@@ -29,10 +29,7 @@ pub enum Typed<'a> {
 fn shown_direction(client: &Client) -> Direction
     ensures { (t : Talk) → StandsAfter client.now t → result ≡ shown_direction (shown_now t) }
 {
-    match client.shown() {
-        None => Direction::Down,
-        Some(board) => Direction::of(board),
-    }
+    client.direction().unwrap_or(Direction::Down)
 }
 
 /// Reads a line that is no command: a standing order to roll, or its withdrawal.

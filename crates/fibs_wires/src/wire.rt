@@ -9,8 +9,9 @@ ghost use Rattle.fibs_history.specs.Machine.{on_wire};
 ghost use Rattle.fibs_machine.specs.Refusals.{is_board_text, reads_as_board};
 ghost use Rattle.fibs_machine.specs.Wires.{next_line};
 
+use fibs_history::read_line;
 use fibs_lines::{Line, Lines, sent_line};
-use fibs_messages::{Reading, read};
+use fibs_messages::Reading;
 use fibs_position::is_good;
 use memchr::memmem;
 use std::alloc::{AllocError, Global};
@@ -204,10 +205,7 @@ impl Wire {
 fn reads_as_board(line: &Line<'_>) -> bool
     ensures { result ≡ reads_as_board (line_reading (value_of line.now)) }
 {
-    if line.cut {
-        return false;
-    }
-    match read(line.bytes) {
+    match read_line(line) {
         Reading::Board(board) => is_good(&board),
         _ => false,
     }

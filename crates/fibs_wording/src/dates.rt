@@ -1,7 +1,8 @@
 //! Dates and times in words.
 
-use fibs_environment::pieces::{append_all, append_number};
+use fibs_environment::pieces::append_all;
 use fibs_environment::{ClockTime, Zone};
+use fibs_fields::decimal::append_number;
 use std::alloc::AllocError;
 
 /// The names of the months.
@@ -25,14 +26,14 @@ fn append_two(number: u8, text: &mut Vec<u8>) -> Result<(), AllocError> {
     if number < 10 {
         text.extend_from_slice(b"0")?;
     }
-    append_number(u64::from(number), text)
+    append_number(number, text)
 }
 
 /// Appends a date in words: `5 January 2003`.
 fn append_day(shown: &ClockTime, text: &mut Vec<u8>) -> Result<(), AllocError> {
-    append_number(u64::from(shown.day), text)?;
+    append_number(shown.day, text)?;
     append_all(&[b" ", month_name(shown.month), b" "], text)?;
-    append_number(u64::from(shown.year), text)
+    append_number(shown.year, text)
 }
 
 /// The name of a month.

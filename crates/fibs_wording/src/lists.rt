@@ -3,9 +3,9 @@
 use crate::messages::append_state;
 use fibs_environment::pieces::short_name;
 use fibs_environment::shown::pad_from;
+use fibs_fields::decimal::append_number;
 use fibs_fields::rating::append_rating;
 use fibs_session::Player;
-use itoa::Buffer;
 use std::alloc::AllocError;
 
 /// The columns of a name.
@@ -38,6 +38,6 @@ pub fn append_row(player: &Player, text: &mut Vec<u8>) -> Result<(), AllocError>
 
 /// Appends how many players there are: `26 players`.
 pub fn append_count(count: usize, text: &mut Vec<u8>) -> Result<(), AllocError> {
-    text.extend_from_slice(Buffer::new().format(count).as_bytes())?;
+    append_number(count, text)?;
     text.extend_from_slice(if count == 1 { b" player" } else { b" players" })
 }

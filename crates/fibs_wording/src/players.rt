@@ -4,6 +4,7 @@ use crate::lists::append_count;
 use crate::messages::append_state;
 use crate::saved::SavedMatches;
 use fibs_environment::shown::{append_shown, pad_from};
+use fibs_fields::decimal::append_number;
 use fibs_fields::rating::append_rating;
 use fibs_session::{Directory, Player};
 use itoa::Buffer;
@@ -265,7 +266,7 @@ fn append_nobody(count: usize, text: &mut Vec<u8>) -> Result<(), AllocError> {
 /// Appends how many more there are, and what to type for them.
 fn append_more(more: usize, words: &[u8], text: &mut Vec<u8>) -> Result<(), AllocError> {
     text.extend_from_slice(b".. ")?;
-    text.extend_from_slice(Buffer::new().format(more).as_bytes())?;
+    append_number(more, text)?;
     text.extend_from_slice(b" more: players ")?;
     if words.len() > MOST_SAID {
         return text.extend_from_slice(b".. all\n");

@@ -50,7 +50,7 @@ fn phase_said(phase: Phase) -> &'static [u8]
 }
 
 /// Writes whose turn it is, and what the player is to do.
-#[tactic(auto, unfolding(crate::specs::Words::turn_row))]
+#[tactic(auto, unfolding(crate::specs::Words::turn_row, fibs_boards::specs::Board::field_values))]
 pub fn write_turn<W: Write>(board: &Board, position: &Position, out: &mut W) -> io::Result<()>
     ensures { let b = fields_of board.now in OnOk result (Appends (W.contents out.old) (W.contents out.new)
         (turn_row (whose (turn b) (colour b)) (phase_in (position_value position.now)))) }
@@ -121,6 +121,7 @@ pub fn write_score<W: Write>(board: &Board, out: &mut W) -> io::Result<()>
 }
 
 /// Who may double next.
+#[tactic(auto, unfolding(fibs_boards::specs::Board::field_values))]
 fn who_doubles(board: &Board) -> &'static [u8]
     ensures { let b = fields_of board.now in result.now ≡ doublers (is_one b 39) (is_one b 40) }
 {
@@ -131,6 +132,7 @@ fn who_doubles(board: &Board) -> &'static [u8]
 }
 
 /// Writes what the cube shows, and who may double next.
+#[tactic(auto, unfolding(fibs_boards::specs::Board::field_values))]
 fn write_cube_shows<W: Write>(board: &Board, out: &mut W) -> io::Result<()>
     ensures { OnOk result (Appends (W.contents out.old) (W.contents out.new) (cube_shows (fields_of board.now))) }
 {

@@ -192,6 +192,7 @@ fn write_owner<W: Write>(
 }
 
 /// Writes who may double next on a board.
+#[tactic(auto, unfolding(fibs_boards::specs::Board::field_values))]
 fn write_board_owner<W: Write>(
     board: &Board,
     player: &[u8],
@@ -211,6 +212,7 @@ fn write_board_owner<W: Write>(
 }
 
 /// Writes what the cube of a board shows.
+#[tactic(auto, unfolding(fibs_boards::specs::Board::field_values))]
 fn write_cube_shows<W: Write>(board: &Board, out: &mut W) -> io::Result<()>
     ensures { OnOk result (Appends (W.contents out.old) (W.contents out.new)
         (codes "Cube " ++ signed_decimal (field_of (fields_of board.now) 38))) }

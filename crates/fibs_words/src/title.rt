@@ -7,7 +7,7 @@ ghost use Rattle.fibs_position.specs.GameOf.{game_of};
 ghost use Rattle.fibs_words.specs.Titles.{turn_title, length_title, score_title, title};
 
 use fibs_boards::fields::{MATCH_LENGTH, OTHER_SCORE, OWN_SCORE, UNLIMITED};
-use fibs_picture::front;
+use fibs_picture::shown_name;
 use fibs_picture::writing::{write_digits, write_text};
 use fibs_position::{GameBoard, Phase};
 use std::io;
@@ -92,7 +92,7 @@ pub fn write_title<W: Write>(game: &GameBoard, out: &mut W) -> io::Result<()>
     ensures { OnOk result (Appends (W.contents out.old) (W.contents out.new) (title (game_of game.now))) }
 {
     write_text(b"fibs: ", out)?;
-    let opponent = front(game.board().opponent().bytes());
+    let opponent = shown_name(game.board().opponent().bytes());
     write_turn_title(game.phase(), opponent, out)?;
     write_points(game, out)
 }

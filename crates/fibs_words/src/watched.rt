@@ -22,8 +22,8 @@ use crate::named::{
 use crate::side::Side;
 use crate::words::tell_side;
 use fibs_boards::Board;
-use fibs_picture::front;
 use fibs_picture::pips::{other_pips, own_pips};
+use fibs_picture::shown_name;
 use fibs_picture::writing::write_text;
 use fibs_position::{Position, WatchedBoard};
 use std::io;
@@ -147,7 +147,7 @@ pub fn tell_watched<W: Write>(watched: &WatchedBoard, out: &mut W) -> io::Result
         (watched_words (watched_of watched.now))) }
 {
     let board = watched.board();
-    let player = front(board.player().bytes());
-    let opponent = front(board.opponent().bytes());
+    let player = shown_name(board.player().bytes());
+    let opponent = shown_name(board.opponent().bytes());
     tell_named(board, watched.position(), player, opponent, out)
 }

@@ -20,8 +20,8 @@ use crate::held::write_held_row;
 use crate::side::Side;
 use crate::stacks::write_side;
 use fibs_boards::Board;
-use fibs_picture::front;
 use fibs_picture::pips::{other_pips, own_pips};
+use fibs_picture::shown_name;
 use fibs_picture::writing::write_text;
 use fibs_position::{GameBoard, Position};
 use std::io;
@@ -99,7 +99,7 @@ fn tell_checkers<W: Write>(board: &Board, position: &Position, out: &mut W) -> i
         (flat_map ended (checkers_rows (fields_of board.now) (position_value position.now)))) }
 {
     tell_side(PLAYER, own_pips(position), position, Side::Own, out)?;
-    let opponent = front(board.opponent().bytes());
+    let opponent = shown_name(board.opponent().bytes());
     tell_side(opponent, other_pips(position), position, Side::Other, out)?;
     tell_held(position, out)
 }

@@ -11,8 +11,8 @@ use fibs_session::Client;
 use std::alloc::{AllocError, Global};
 
 /// The words that send the rest of their line to people, or to the server as it is.
-const TALK: [&[u8]; 7] = [
-    b"say", b"tell", b"shout", b"whisper", b"kibitz", b"message", b"send",
+const TALK: [&[u8]; 8] = [
+    b"say", b"tell", b"shout", b"whisper", b"kibitz", b"message", b"re", b"send",
 ];
 
 /// The words that names follow.

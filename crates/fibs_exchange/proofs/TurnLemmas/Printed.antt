@@ -25,10 +25,10 @@ use Rattle.fibs_exchange.specs.declared.Ending.TheVariants.{Quiet, Lost}
 use Rattle.fibs_engine.specs.Escape.{escaped}
 use Rattle.fibs_engine.specs.Printing.{line_bytes}
 use Rattle.fibs_position.specs.Phases.{phase_of}
-use Rattle.fibs_front.specs.Told.{SaidValue, heard_said, phase_said, confirmed_said, sent_said, ordered_said}
-use Rattle.fibs_front.specs.Told.{withdrawn_said, refused_said, not_sent_said, unknown_said, lost_said}
-use Rattle.fibs_front.specs.Told.{unnoted_said, rolled_said, no_connection_said, player_said, opened_said, passed_said}
+use Rattle.fibs_front.specs.Told.{SaidValue, phase_said, sent_said, ordered_said}
+use Rattle.fibs_front.specs.Told.{withdrawn_said, refused_said, not_sent_said}
 use Rattle.fibs_front.specs.Account.{lines_of, printed_of, account_of}
+use Rattle.fibs_session.specs.Calls.SessionOf.{ask_of}
 use Rattle.fibs_exchange.specs.Turns.Acts.{Act, answer_act}
 use Rattle.fibs_front.specs.Lines.{text_of_lines, lost_line}
 use Rattle.fibs_exchange.specs.Turns.Lines.{phase_told, confirmed_told, rolled_told, line_act, line_acts}
@@ -44,31 +44,16 @@ use Rattle.fibs_exchange.specs.Turns.Script.{Done, directory_told, done_told, ac
 use Rattle.fibs_exchange.specs.Turns.Turn.{end_acts}
 use Rattle.fibs_exchange.specs.Turns.PrintLaw.{is_directory_line, without_directory, lines_of_acts, TurnsPrintTheirActs}
 
--- whether it says that the directory took no note
-abbrev is_unnoted : SaidValue → Bool
-is_unnoted (heard_said line r) = false
-is_unnoted (phase_said phase) = false
-is_unnoted (confirmed_said ask) = false
-is_unnoted (sent_said text) = false
-is_unnoted rolled_said = false
-is_unnoted ordered_said = false
-is_unnoted withdrawn_said = false
-is_unnoted (refused_said why) = false
-is_unnoted (not_sent_said why) = false
-is_unnoted unknown_said = false
-is_unnoted (lost_said waited) = false
-is_unnoted (unnoted_said why) = true
-is_unnoted opened_said = false
-is_unnoted (no_connection_said why) = false
-is_unnoted (passed_said line) = false
-is_unnoted (player_said told) = false
+-- the lines that are printed for it stay if the directory's go
+abbrev Stays : SaidValue → Type 0
+Stays s = (ms : List (List ℕ)) → without_directory (lines_of s ++ ms) ≡ lines_of s ++ without_directory ms
 
--- none of these does
+-- so do those of each of these
 abbrev Plain : List SaidValue → Type 0
 Plain [] = Unit {0}
-Plain (s ∷ ss) = (is_unnoted s ≡ false) × Plain ss
+Plain (s ∷ ss) = Stays s × Plain ss
 
--- no act reports that the directory took no note
+-- each act reports such alone
 abbrev PlainActs : List Act → Type 0
 PlainActs [] = Unit {0}
 PlainActs (a ∷ acts) = Plain a.tells × PlainActs acts
@@ -99,34 +84,10 @@ lost_is_plain : (o : Option Ask) → is_directory_line (lost_line o) ≡ false
 lost_is_plain None = refl
 lost_is_plain (Some ask) = refl
 
--- what holds cannot also fail
-never_unnoted : {P : Type 0} → true ≡ false → P
-never_unnoted {P} e = absurd cc
-
 -- a line that is not the directory's stays
 line_stays : (line : List ℕ) (ms : List (List ℕ)) → is_directory_line line ≡ false
     → without_directory (line ∷ ms) ≡ line ∷ without_directory ms
 line_stays line ms e = ap (λ b. cond b (without_directory ms) (line ∷ without_directory ms)) e
-
--- none of the lines that are printed for it is a line of the directory
-lines_stay : (s : SaidValue) (ms : List (List ℕ)) → is_unnoted s ≡ false
-    → without_directory (lines_of s ++ ms) ≡ lines_of s ++ without_directory ms
-lines_stay opened_said ms h = refl
-lines_stay (no_connection_said why) ms h = refl
-lines_stay (heard_said line r) ms h = line_stays (heard_text line r) ms (kept_is_plain line.cut line.bytes r)
-lines_stay (phase_said phase) ms h = refl
-lines_stay (confirmed_said ask) ms h = refl
-lines_stay (sent_said text) ms h = refl
-lines_stay rolled_said ms h = refl
-lines_stay (passed_said line) ms h = refl
-lines_stay ordered_said ms h = refl
-lines_stay withdrawn_said ms h = refl
-lines_stay (refused_said why) ms h = refl
-lines_stay (not_sent_said why) ms h = line_stays (plain_line why) ms (not_sent_is_plain why)
-lines_stay unknown_said ms h = refl
-lines_stay (lost_said waited) ms h = line_stays (lost_line waited) ms (lost_is_plain waited)
-lines_stay (unnoted_said why) ms h = never_unnoted h
-lines_stay (player_said told) ms h = refl
 
 -- lines that are printed for plain reports stay, with what follows them
 without_plain : (ss : List SaidValue) (ms : List (List ℕ)) → Plain ss
@@ -134,7 +95,7 @@ without_plain : (ss : List SaidValue) (ms : List (List ℕ)) → Plain ss
 without_plain [] ms h = refl
 without_plain (s ∷ ss) ms h =
     ap without_directory (append_assoc (lines_of s) (flat_map lines_of ss) ms)
-    ∙ lines_stay s (flat_map lines_of ss ++ ms) h.0 ∙ ap (λ k. lines_of s ++ k) (without_plain ss ms h.1)
+    ∙ h.0 (flat_map lines_of ss ++ ms) ∙ ap (λ k. lines_of s ++ k) (without_plain ss ms h.1)
     ∙ sym (append_assoc (lines_of s) (flat_map lines_of ss) (without_directory ms))
 
 -- what the directory refused is printed by its line alone, which goes
@@ -193,7 +154,7 @@ told_joined (s ∷ ss) ts h k = (h.0, told_joined ss ts h.1 k)
 
 -- the phase of a good board is a plain report
 good_is_plain : (g : Bool) (b : BoardFields) → Plain (if g then phase_said (phase_of b) ∷ [] else [])
-good_is_plain true b = (refl, tt)
+good_is_plain true b = (λ ms. refl, tt)
 good_is_plain false b = tt
 
 -- the phase that is reported after a line is plain
@@ -206,11 +167,11 @@ phase_is_plain (malformed_line number k f) = tt
 -- a decision that is confirmed is a plain report
 confirmed_is_plain : (o : Option Ask) → Plain (confirmed_told o)
 confirmed_is_plain None = tt
-confirmed_is_plain (Some ask) = (refl, tt)
+confirmed_is_plain (Some ask) = (λ ms. refl, tt)
 
 -- the roll of a standing order is a plain report
 rolled_is_plain : (rolled : Bool) → Plain (rolled_told rolled)
-rolled_is_plain true = (refl, tt)
+rolled_is_plain true = (λ ms. refl, tt)
 rolled_is_plain false = tt
 
 -- all that is reported of a line is plain
@@ -220,8 +181,10 @@ heard_is_plain log l =
     let h : Heard = heard (open_now log) log r in
     let decided : Plain (confirmed_told h.confirmed ++ rolled_told h.rolled) =
     told_joined (confirmed_told h.confirmed) (rolled_told h.rolled) (confirmed_is_plain h.confirmed)
-    (rolled_is_plain h.rolled) in
-    (refl, told_joined (phase_told r) (confirmed_told h.confirmed ++ rolled_told h.rolled) (phase_is_plain r) decided)
+    (rolled_is_plain h.rolled) in (
+      λ ms. line_stays (heard_text l r) ms (kept_is_plain l.cut l.bytes r),
+      told_joined (phase_told r) (confirmed_told h.confirmed ++ rolled_told h.rolled) (phase_is_plain r) decided,
+    )
 
 -- all that is reported of lines is plain
 lines_are_plain : (log : List Entry) (ls : List ReadLine) → PlainActs (line_acts log ls)
@@ -245,29 +208,29 @@ piece_is_plain t bytes = go (is_online t)
 -- commands that were sent are plain reports
 sent_is_plain : (send : List (List ℕ)) → Plain (map sent_said send)
 sent_is_plain [] = tt
-sent_is_plain (text ∷ send) = (refl, sent_is_plain send)
+sent_is_plain (text ∷ send) = (λ ms. refl, sent_is_plain send)
 
 -- the answer to a decision is reported plainly
 decided_is_plain : (why : Option Refusal) (send : List (List ℕ))
     → Plain (answer_act (option_map refused_said why) send).tells
 decided_is_plain None send = sent_is_plain send
-decided_is_plain (Some why) send = (refl, tt)
+decided_is_plain (Some why) send = (λ ms. refl, tt)
 
 -- the answer to a plain command is reported plainly
 plain_is_plain : (why : Option PlainRefusal) (send : List (List ℕ))
     → Plain (answer_act (option_map not_sent_said why) send).tells
 plain_is_plain None send = sent_is_plain send
-plain_is_plain (Some why) send = (refl, tt)
+plain_is_plain (Some why) send = (λ ms. line_stays (plain_line why) ms (not_sent_is_plain why), tt)
 
 -- the answer to a standing order is reported plainly
 ordered_is_plain : (why : Option Refusal) → Plain (order_told ordered_said why ∷ [])
-ordered_is_plain None = (refl, tt)
-ordered_is_plain (Some why) = (refl, tt)
+ordered_is_plain None = (λ ms. refl, tt)
+ordered_is_plain (Some why) = (λ ms. refl, tt)
 
 -- the answer to the end of a standing order is reported plainly
 withdrawn_is_plain : (why : Option Refusal) → Plain (order_told withdrawn_said why ∷ [])
-withdrawn_is_plain None = (refl, tt)
-withdrawn_is_plain (Some why) = (refl, tt)
+withdrawn_is_plain None = (λ ms. refl, tt)
+withdrawn_is_plain (Some why) = (λ ms. refl, tt)
 
 -- the answer to whatever is typed is reported plainly
 typed_is_plain : (t : Talk) (v : TypedValue) → Plain (typed_act t v).tells
@@ -275,7 +238,7 @@ typed_is_plain t (typed_decision d) = decided_is_plain (answer_now t d) (step t 
 typed_is_plain t (typed_plain p) = plain_is_plain (plain_refusal t p) (step t (PlainInput p)).send
 typed_is_plain t typed_order = ordered_is_plain (order_refusal t.log)
 typed_is_plain t typed_withdrawal = withdrawn_is_plain (withdraw_refusal t.log)
-typed_is_plain t typed_none = (refl, tt)
+typed_is_plain t typed_none = (λ ms. refl, tt)
 
 -- the acts of a line that may have been typed are plain
 typed_are_plain : (t : Talk) (typed : Option (List ℕ)) → PlainActs (typed_acts t typed)
@@ -287,7 +250,9 @@ typed_are_plain t (Some text) = (typed_is_plain t (typed_now t text), tt)
 -- the end of a turn is reported plainly
 end_is_plain : (e : Ending) → PlainActs (end_acts e)
 end_is_plain Quiet = tt
-end_is_plain (Lost waited) = ((refl, tt), tt)
+end_is_plain (Lost waited) =
+    let ask = option_map ask_of waited in
+    ((λ ms. line_stays (lost_line ask) ms (lost_is_plain ask), tt), tt)
 
 -- all lines of a turn but the directory's are those of its acts
 pub turns_print_their_acts : TurnsPrintTheirActs

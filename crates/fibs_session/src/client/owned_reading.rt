@@ -6,8 +6,8 @@ ghost use Rattle.fibs_lines.specs.Lines.{ReadLine};
 ghost use Rattle.fibs_messages.specs.Line.{reading_of};
 ghost use Rattle.fibs_history.specs.Hearing.{line_reading};
 
-use crate::hearing::read_line;
 use fibs_boards::Board;
+use fibs_history::read_line;
 use fibs_lines::Line;
 use fibs_messages::{Fault, Reading, laws};
 

@@ -1,10 +1,11 @@
 //! What was printed is shown before the program waits: for the server, for a typed line, for a connection.
 
-use crate::fibs_connect::converse_with;
+use crate::fibs_connect::{converse_on, converse_with};
 use crate::fibs_engine::dial::Dial;
 use crate::fibs_engine::fault::EngineFault;
 use crate::fibs_engine::link::Link;
 use crate::fibs_front::watch::Unwatched;
+use crate::fibs_objects::front::Objects;
 use crate::fibs_test_tools::pipe::{After, Pipe};
 use crate::rattle::cell::Cell;
 use crate::rattle::io;
@@ -112,42 +113,59 @@ impl<'a> Dial for WatchedDoor<'a> {
     }
 }
 
+/// What is printed of a conversation.
+#[derive(Clone, Copy, Debug)]
+enum Account {
+    Plain,
+    Objects,
+}
+
 /// How a conversation with each kind of typed line ends, if one flush of the screen fails after so many.
-fn conversed_on(seen: &Seen, flushes: u32) -> Result<u8, EngineFault> {
+fn conversed_on(seen: &Seen, account: Account, flushes: u32) -> Result<u8, EngineFault> {
     let lines = b"secret\nplayers\ndance\nroll\nopen\nopen\n\nroll\nquit\n";
     let mut typed = Watched { stream: Pipe::new(lines, 5, After::End, 0), seen };
     let mut screen = Screen { seen, flushes, failed: false };
     let mut other = Pipe::new(b"", 1, After::End, 0);
     let mut door = WatchedDoor { seen };
     let watch = &mut Unwatched;
-    converse_with(&mut door, b"ann", 1000, &mut typed, watch, &mut screen, &mut other)
+    match account {
+        Account::Plain => converse_with(&mut door, b"ann", 1000, &mut typed, watch, &mut screen, &mut other),
+        Account::Objects => {
+            let mut front = Objects::new(&mut screen);
+            converse_on(&mut door, b"ann", 1000, &mut typed, watch, &mut front, &mut other)
+        }
+    }
 }
 
 #[test]
 fn nothing_is_hidden_while_the_program_waits() {
-    let seen = Seen::new();
-    let ending = conversed_on(&seen, 1000);
-    let is_shown = ending == Ok(0) && seen.is_shown();
-    assert!(is_shown, "something is hidden, or the end is a fault");
-    assert!(seen.waits.get() > 15, "it waits more often");
+    for account in [Account::Plain, Account::Objects] {
+        let seen = Seen::new();
+        let ending = conversed_on(&seen, account, 1000);
+        let is_shown = ending == Ok(0) && seen.is_shown();
+        assert!(is_shown, "{account:?}: something is hidden, or the end is a fault");
+        assert!(seen.waits.get() > 15, "{account:?}: it waits more often");
+    }
 }
 
 /// Whether the conversation ends by a fault, which is the device's, if one flush fails after so many.
-fn fails_after(flushes: u32) -> bool {
-    let ending = conversed_on(&Seen::new(), flushes);
+fn fails_after(account: Account, flushes: u32) -> bool {
+    let ending = conversed_on(&Seen::new(), account, flushes);
     let is_fault = ending == Err(EngineFault::Device);
-    assert!(is_fault || ending == Ok(0), "after {flushes} flushes");
+    assert!(is_fault || ending == Ok(0), "{account:?}: after {flushes} flushes");
     is_fault
 }
 
 #[test]
 fn each_flush_that_fails_is_a_device_fault() {
-    let mut failed = 0u32;
-    for flushes in 0..100 {
-        if fails_after(flushes) {
-            failed = failed.saturating_add(1);
+    for account in [Account::Plain, Account::Objects] {
+        let mut failed = 0u32;
+        for flushes in 0..100 {
+            if fails_after(account, flushes) {
+                failed = failed.saturating_add(1);
+            }
         }
+        // a conversation flushes more than ten times, and fewer than a hundred
+        assert!(failed > 10 && failed < 100, "{account:?}: {failed} flushes");
     }
-    // a conversation flushes more than ten times, and fewer than a hundred
-    assert!(failed > 10 && failed < 100, "{failed} flushes");
 }

@@ -5,3 +5,4 @@ mod exchange;
 mod flushing;
 mod orders;
 mod printing;
+mod reporting;

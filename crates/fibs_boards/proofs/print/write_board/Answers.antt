@@ -1,12 +1,13 @@
 use Rattle.std.proofs.Common.{drop}
 use Rattle.fibs_boards.specs.Board.{BoardFields}
+use Rattle.fibs_boards.specs.StoredNumbers.{numbers_of}
 use Rattle.fibs_boards.proofs.BoardLemmas.Backward.{written_backward}
 use Rattle.fibs_boards.proofs.print.write_board.Goals as goal
 
 pub returns-clause-written : goal.returns-clause-written
 returns-clause-written c =
     let b : BoardFields =
-    record { player = c.args.player.now; opponent = c.args.opponent.now; numbers = c.args.numbers.now } in
+    record { player = c.args.player.now; opponent = c.args.opponent.now; numbers = numbers_of c.args.numbers.now } in
     written_backward b
     (drop c.write_numbers-start.result c.write_numbers-start.new.text)
     (drop c.write_before-start.result c.write_before-start.new.text)

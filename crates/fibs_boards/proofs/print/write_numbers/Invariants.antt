@@ -1,6 +1,7 @@
 use Rattle.std.proofs.Common.{◌≡◌, ◌≤◌, ◌+◌, take, drop}
 use Rattle.fibs_boards.specs.Board.{field_values}
 use Rattle.fibs_boards.specs.Numerals.{after_colons}
+use Rattle.fibs_boards.specs.StoredNumbers.{numbers_of}
 use Rattle.fibs_boards.proofs.BoardLemmas.Lengths.{total}
 use Rattle.fibs_boards.proofs.print.write_numbers.Given as goal
 
@@ -9,7 +10,7 @@ invariant-loop-left l = record {
   count : l.left ≤ 50;
   within : l.start ≤ 329;
   room : total (take l.left field_values) + 135 ≤ l.start;
-  text : drop l.start l.text ≡ after_colons (drop l.left l.numbers);
+  text : drop l.start l.text ≡ after_colons (drop l.left (numbers_of l.numbers));
 }
 
 abbrev pub decreases-loop-left : goal.decreases-loop-left

@@ -1,7 +1,8 @@
 use Rattle.std.proofs.Common.{◌++◌, ◌+◌, ℕ, List, [], get_or, take, drop, refl, sym, ap, ◌∙◌, subst}
 use Rattle.std.specs.Io.KnownBytes.{Appends}
 use Rattle.std.proofs.KnownBytes.{Appends-nil, Appends-trans}
-use Rattle.fibs_engine.specs.Escape.{escaped, hex_escape}
+use Rattle.fibs_fields.specs.Hex.{hex_escape}
+use Rattle.fibs_engine.specs.Escape.{escaped}
 use Rattle.fibs_engine.specs.Writing.{GainedFront, progress_of}
 use Rattle.fibs_engine.proofs.EscapeLemmas.{escaped_run, escaped_escape, escaped_rest, escaped_none}
 use Rattle.fibs_engine.proofs.WriteLemmas.{broke_after, wrote_front, wrote_after}

@@ -2,7 +2,7 @@ use Rattle.std.proofs.Common.{◌++◌, ap, ◌∙◌}
 use Rattle.std.specs.List.{flat_map}
 use Rattle.fibs_engine.proofs.OkLemmas.{on_ok_weaker}
 use Rattle.fibs_messages.specs.Message.{message_of}
-use Rattle.fibs_json.specs.Gains.{field_text}
+use Rattle.fibs_json.specs.Parts.{field_text}
 use Rattle.fibs_json.proofs.ObjectLemmas.{said}
 use Rattle.fibs_json.proofs.fields.append_message.Goals as goal
 

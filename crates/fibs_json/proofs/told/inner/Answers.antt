@@ -1,7 +1,7 @@
 use Rattle.std.proofs.Common.{◌++◌, ◌∷◌, [], ◌≡◌, ◌≢◌, ℕ, List, MatchOption, subst}
 use Rattle.std.proofs.lemmas.Bool.Decides.{Decides-eqb}
 use Rattle.std.proofs.lemmas.Slice.Eq.{strip_prefix_is, strip_suffix_is}
-use Rattle.fibs_json.specs.Gains.{front}
+use Rattle.fibs_json.specs.Parts.{front}
 use Rattle.fibs_json.proofs.ToldLemmas.{without_front}
 use Rattle.fibs_json.proofs.told.inner.Goals as goal
 

@@ -9,7 +9,7 @@ pub loop-at-init : goal.loop-at-init
 loop-at-init c = record {
   in_range = omega arith;
   fits = omega (arith, c.room-room.ensures.fits);
-  taken = sym (append-nil c.args.front.now);
+  taken = sym (append-nil c.args.head.now);
   run = tt;
 }
 
@@ -24,7 +24,7 @@ truncate-requires c =
       c.len-start.ensures.value,
       trailing_le 64 c.ends-found.result,
       ap length c.append.ensures,
-      length-append c.loop-at.front window,
+      length-append c.loop-at.head window,
       length-take (at + 64 - at) (drop at bytes),
       length-drop at bytes,
     )
@@ -33,11 +33,11 @@ pub returns-then-found-ne0-clause-taken : goal.returns-then-found-ne0-clause-tak
 returns-then-found-ne0-clause-taken c =
     let bytes = c.args.bytes.now in
     let at = c.loop-at.at in
-    let front = c.loop-at.front in
+    let head = c.loop-at.head in
     let size : at + 64 - at ≡ 64 = omega arith in
-    window_part c.args.front.now front c.append.new.self c.truncate.new.self bytes at c.len-start.result
+    window_part c.args.head.now head c.append.new.self c.truncate.new.self bytes at c.len-start.result
     (count_trailing_zeros 64 c.ends-found.result) c.loop-at.invariant.taken c.len-start.ensures.value
-    (c.append.ensures ∙ ap (λ n. front ++ take n (drop at bytes)) size) c.truncate.ensures
+    (c.append.ensures ∙ ap (λ n. head ++ take n (drop at bytes)) size) c.truncate.ensures
     (trailing_le 64 c.ends-found.result)
 
 pub returns-then-found-ne0-clause-fits : goal.returns-then-found-ne0-clause-fits
@@ -67,14 +67,14 @@ pub loop-at-preserved : goal.loop-at-preserved
 loop-at-preserved c =
     let bytes = c.args.bytes.now in
     let at = c.loop-at.at in
-    let front = c.loop-at.front in
+    let head = c.loop-at.head in
     let size : at + 64 - at ≡ 64 = omega arith in
     let room : at + 64 ≤ length bytes = omega (arith, c.loop-at-test.true) in
     record {
       in_range = room;
       fits = omega (arith, c.loop-at.invariant.fits, c.loop-at-test.true, c.room-room.ensures.value);
-      taken = window_more c.args.front.now front c.append.new.self bytes at c.loop-at.invariant.taken
-          (c.append.ensures ∙ ap (λ n. front ++ take n (drop at bytes)) size);
+      taken = window_more c.args.head.now head c.append.new.self bytes at c.loop-at.invariant.taken
+          (c.append.ensures ∙ ap (λ n. head ++ take n (drop at bytes)) size);
       run = window_run bytes at c.ends-found.result room c.ends-found.ensures c.if-found-ne0.false
           c.loop-at.invariant.run;
     }

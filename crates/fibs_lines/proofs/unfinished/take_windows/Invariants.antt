@@ -6,8 +6,8 @@ use Rattle.fibs_lines.proofs.unfinished.take_windows.Given as goal
 abbrev pub invariant-loop-at : goal.invariant-loop-at
 invariant-loop-at l = record {
   in_range : l.at ≤ length l.bytes;
-  fits : length l.initial.front + l.at ≤ 16385;
-  taken : l.front ≡ l.initial.front ++ take l.at l.bytes;
+  fits : length l.initial.head + l.at ≤ 16385;
+  taken : l.head ≡ l.initial.head ++ take l.at l.bytes;
   run : IsRun (take l.at l.bytes);
 }
 

@@ -8,5 +8,5 @@ unfolding experience_words
 returns c =
     three-appended c.extend_from_slice-2.result c.args.text.now.items (codes ", experience ")
     (decimal c.args.experience) (codes ")") c.extend_from_slice.new.self.items c.append_number.new.text.items
-    c.extend_from_slice-2.new.self.items c.in_ok-extend_from_slice.ensures.items c.in_ok-append_number.ensures
+    c.extend_from_slice-2.new.self.items c.in_ok-extend_from_slice.ensures.items c.in_ok-append_number.ensures.put
     c.extend_from_slice-2.ensures.items

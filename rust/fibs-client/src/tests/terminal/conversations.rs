@@ -1,28 +1,18 @@
 //! Conversations, and what a terminal shows of them.
 
-use super::lines::{MOVED, POINT_MADE, SETTINGS, TO_MOVE, TO_ROLL, WELCOME};
+use super::lines::{MOVED, POINT_MADE, SETTINGS, TO_MOVE, TO_ROLL, WELCOME, to_roll_picture};
 use super::seats::{Scene, Step, assert_has, assert_scenes, assert_shows, colour_settings, plain_settings, shown};
 use crate::fibs_environment::Settings;
 
 /// What a turn shows after the first messages: one picture, and a row for each other thing.
-const TURN: &str = "Welcome, ann. Last login: 30 December 2002, 12:58, from localhost.
+const TURN: &str = concat!(
+    "Welcome, ann. Last login: 30 December 2002, 12:58, from localhost.
 You are ann, rated 1500.00, experience 0.
 On: allowpip autoboard crawford double
     moreboards notify
- +13-14-15-16-17-18-+---+19-20-21-22-23-24-+   X bob
- | O           X    |   | X              O |     score 1
- | O           X    |   | X              O |     off   0
- | O           X    |   | X                |     pips  167
- | O                |   | X                |     dice  -
- | O                |   | X                |   match to 3
- |                  |BAR|                  |   cube 1, in the middle
- | X                |   | O                |   your turn
- | X                |   | O                |     dice  -
- | X           O    |   | O                |     pips  167
- | X           O    |   | O              X |     off   0
- | X           O    |   | O              X |     score 0
- +12-11-10--9--8--7-+---+-6--5--4--3--2--1-+   O You
- You roll, or double, or resign.
+",
+    to_roll_picture!(),
+    " You roll, or double, or resign.
 Your turn: roll, or double.
 sent roll
 You roll 6 and 2.
@@ -30,7 +20,8 @@ Your move, as in: move 24-22 24-18
 You have no checker on 23. [9 IllegalPlay]
 Your move, as in: move 24-22 24-18
 sent move 24-18 13-11
-";
+"
+);
 
 /// The first messages, and a turn.
 static TURN_STEPS: [Step<'static>; 16] = [

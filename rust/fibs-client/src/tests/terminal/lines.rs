@@ -11,6 +11,27 @@ pub const SETTINGS: &[u8] = b"2 ann 1 1 0 0 0 0 1 1 0 0 1 0 1 1500.00 0 0 none 0
 pub const TO_ROLL: &[u8] =
     b"board:You:bob:3:0:1:0:-2:0:0:0:0:5:0:3:0:0:0:-5:5:0:0:0:-3:0:-5:0:0:0:0:2:0:1:0:0:0:0:1:1:1:0:1:-1:0:25:0:0:0:0:2:0:0:0\r\n";
 
+/// The picture of this board, without the line that says what can be done.
+macro_rules! to_roll_picture {
+    () => {
+        " +13-14-15-16-17-18-+---+19-20-21-22-23-24-+   X bob
+ | O           X    |   | X              O |     score 1
+ | O           X    |   | X              O |     off   0
+ | O           X    |   | X                |     pips  167
+ | O                |   | X                |     dice  -
+ | O                |   | X                |   match to 3
+ |                  |BAR|                  |   cube 1, in the middle
+ | X                |   | O                |   your turn
+ | X                |   | O                |     dice  -
+ | X           O    |   | O                |     pips  167
+ | X           O    |   | O              X |     off   0
+ | X           O    |   | O              X |     score 0
+ +12-11-10--9--8--7-+---+-6--5--4--3--2--1-+   O You
+"
+    };
+}
+pub(crate) use to_roll_picture;
+
 /// The same board with dice.
 pub const TO_MOVE: &[u8] =
     b"board:You:bob:3:0:1:0:-2:0:0:0:0:5:0:3:0:0:0:-5:5:0:0:0:-3:0:-5:0:0:0:0:2:0:1:6:2:0:0:1:1:1:0:1:-1:0:25:0:0:0:0:2:0:0:0\r\n";

@@ -1,6 +1,6 @@
 //! What a terminal remembers, and for how long.
 
-use super::lines::{FIRST_BOARD, MOVED, POINT_MADE, TO_MOVE, TO_ROLL, WELCOME};
+use super::lines::{FIRST_BOARD, MOVED, POINT_MADE, TO_MOVE, TO_ROLL, WELCOME, to_roll_picture};
 use super::seats::{Scene, Step, assert_scenes, assert_wanted, colour_settings, plain_settings, shown};
 use crate::fibs_environment::Settings;
 
@@ -60,20 +60,7 @@ static DRAWN_AGAIN: [Scene; 2] = [
     (&[Step::Loses, Step::Opens, Step::Hears(WELCOME), Step::Hears(TO_ROLL)], "   O You\n"),
     (
         &[Step::Hears(MOVED), Step::Loses, Step::Opens, Step::Hears(TO_ROLL)],
-        "connected to fibs.com:4321\n +13-14-15-16-17-18-+---+19-20-21-22-23-24-+   X bob
- | O           X    |   | X              O |     score 1
- | O           X    |   | X              O |     off   0
- | O           X    |   | X                |     pips  167
- | O                |   | X                |     dice  -
- | O                |   | X                |   match to 3
- |                  |BAR|                  |   cube 1, in the middle
- | X                |   | O                |   your turn
- | X                |   | O                |     dice  -
- | X           O    |   | O                |     pips  167
- | X           O    |   | O              X |     off   0
- | X           O    |   | O              X |     score 0
- +12-11-10--9--8--7-+---+-6--5--4--3--2--1-+   O You
-",
+        concat!("connected to fibs.com:4321\n", to_roll_picture!()),
     ),
 ];
 
@@ -144,21 +131,7 @@ static BOARDS: [Scene; 5] = [
     (&[Step::Hears(WITH_CAROL)], "   O You\n You roll, or double, or resign.\n"),
     (
         &[Step::Types(b"board"), Step::Hears(TO_ROLL), Step::Hears(MOVED)],
-        "sent board\n +13-14-15-16-17-18-+---+19-20-21-22-23-24-+   X bob
- | O           X    |   | X              O |     score 1
- | O           X    |   | X              O |     off   0
- | O           X    |   | X                |     pips  167
- | O                |   | X                |     dice  -
- | O                |   | X                |   match to 3
- |                  |BAR|                  |   cube 1, in the middle
- | X                |   | O                |   your turn
- | X                |   | O                |     dice  -
- | X           O    |   | O                |     pips  167
- | X           O    |   | O              X |     off   0
- | X           O    |   | O              X |     score 0
- +12-11-10--9--8--7-+---+-6--5--4--3--2--1-+   O You
- You roll, or double, or resign.
-bob's turn.\n",
+        concat!("sent board\n", to_roll_picture!(), " You roll, or double, or resign.\nbob's turn.\n"),
     ),
     (
         &[

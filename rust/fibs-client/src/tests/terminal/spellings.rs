@@ -8,7 +8,7 @@ const BOARD: &[u8] =
     b"board:You:bob:3:0:1:0:-2:0:0:0:0:5:0:3:0:0:0:-5:5:0:0:0:-3:0:-5:0:0:0:0:2:0:1:6:5:0:0:1:1:1:0:1:-1:0:25:0:0:0:0:2:0:0:0\r\n";
 
 /// What is typed, and the end of what is shown then.
-static LINES: [(&[u8], &str); 16] = [
+static LINES: [(&[u8], &str); 22] = [
     (b"24/13", "sent move 24-18 18-13\n"),
     (b"24/18/13", "sent move 24-18 18-13\n"),
     (b"M 24/18 13/8", "sent move 24-18 13-8\n"),
@@ -25,6 +25,50 @@ static LINES: [(&[u8], &str); 16] = [
     (b"T bob Hi", "sent tell bob Hi\n"),
     (b"  say  Hi ", "sent say  Hi \n"),
     (b"Invite Bob 5 ", "sent invite Bob 5\n"),
+    (b"Join Bob", "sent join Bob\n"),
+    (b"Gag Bob", "Bob is gagged on this screen: ungag ends it.\n"),
+    (b"Message Bob Hi There", "sent message Bob Hi There\n"),
+    (b"Whisper Hi There", "sent whisper Hi There\n"),
+    (b"Shout Hi There", "sent shout Hi There\n"),
+    (b"Send Hi There", "sent as it is: Hi There\n"),
+];
+
+/// The same board with the dice 3 and 3.
+const PAIR: &[u8] =
+    b"board:You:bob:3:0:1:0:-2:0:0:0:0:5:0:3:0:0:0:-5:5:0:0:0:-3:0:-5:0:0:0:0:2:0:1:3:3:0:0:1:1:1:0:1:-1:0:25:0:0:0:0:2:0:0:0\r\n";
+
+/// The dice are 6 and 5, and the player has one checker left, on his 24, from which it goes the same way by either die
+/// first; the opponent has a checker on 18, which one way hits; the player's checker is on 5; it is on the bar.
+const ALONE: &[u8] =
+    b"board:You:bob:5:0:0:0:0:0:-2:0:0:0:0:0:0:0:0:0:0:0:0:0:0:0:0:0:0:0:0:1:0:1:6:5:0:0:1:1:1:0:1:-1:0:25:14:13:0:0:1:0:0:0\r\n";
+
+const HITS: &[u8] =
+    b"board:You:bob:5:0:0:0:0:0:-1:0:0:0:0:0:0:0:0:0:0:0:0:0:0:-1:0:0:0:0:0:1:0:1:6:5:0:0:1:1:1:0:1:-1:0:25:14:13:0:0:1:0:0:0\r\n";
+
+const HOME: &[u8] =
+    b"board:You:bob:5:0:0:0:0:0:-2:0:1:0:0:0:0:0:0:0:0:0:0:0:0:0:0:0:0:0:0:0:0:1:6:5:0:0:1:1:1:0:1:-1:0:25:14:13:0:0:1:0:0:0\r\n";
+
+const ON_BAR: &[u8] =
+    b"board:You:bob:5:0:0:0:0:0:-2:0:0:0:0:0:0:0:0:0:0:0:0:0:0:0:0:0:0:0:0:0:1:1:6:5:0:0:1:1:1:0:1:-1:0:25:14:13:1:0:1:0:0:0\r\n";
+
+/// The same dice, and a player who goes up from 4 with his last checker.
+const UP: &[u8] =
+    b"board:You:bob:5:0:0:0:0:0:0:-1:0:0:0:0:0:0:0:0:0:0:0:0:0:0:0:2:0:0:0:0:0:-1:6:5:0:0:1:1:1:0:-1:1:25:0:14:13:0:0:1:0:0:0\r\n";
+
+/// A board, a move that is typed there, and the end of what is shown then. Nothing is sent if two moves may be meant,
+/// or if only a part of one was typed.
+static MOVES: [(&[u8], &[u8], &str); 11] = [
+    (PAIR, b"8/5(2) 6/3(2)", "sent move 8-5 8-5 6-3 6-3\n"),
+    (PAIR, b"8/5(2) 6/3", "[9 IllegalPlay]\n"),
+    (ALONE, b"24/13", "sent move 24-19 19-13\n"),
+    (ALONE, b"24/19", "[9 IllegalPlay]\n"),
+    (HITS, b"24/13", "[9 IllegalPlay]\n"),
+    (HITS, b"24/18*/13", "sent move 24-18 18-13\n"),
+    (HOME, b"5/off", "sent move 5-off\n"),
+    (ON_BAR, b"bar/14", "sent move bar-20 20-14\n"),
+    (UP, b"4/15", "sent move 4-9 9-15\n"),
+    (UP, b"4/10/15", "sent move 4-10 10-15\n"),
+    (UP, b"21/10", "[9 IllegalPlay]\n"),
 ];
 
 /// Steps up to the board.
@@ -34,5 +78,13 @@ static SHOWN: [Step<'static>; 3] = [Step::Hears(WELCOME), Step::Hears(SETTINGS),
 fn lines_are_spelled_out() {
     for (line, rows) in &LINES {
         assert_ends(plain_settings(), &SHOWN, &[Step::Types(line)], rows);
+    }
+}
+
+#[test]
+fn moves_are_spelled_out() {
+    for (board, line, rows) in &MOVES {
+        let shown = [Step::Hears(WELCOME), Step::Hears(SETTINGS), Step::Hears(board)];
+        assert_ends(plain_settings(), &shown, &[Step::Types(line)], rows);
     }
 }

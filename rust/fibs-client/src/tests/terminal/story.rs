@@ -60,6 +60,9 @@ fn each_play_of_a_game_is_told() {
             let play = any_play(&before, &mut chance);
             let after = effect(before.board(), &Decision::Move(play), [0, 0]).expect("a legal play");
             let told = played(&before, &after).expect("memory").expect("a play");
+            let plays = before.position().plays().expect("memory");
+            let is_legal = if plays.is_empty() { told.steps().is_empty() } else { plays.contains(&told) };
+            assert!(is_legal, "game {seed}: {told:?}");
             let again = effect(before.board(), &Decision::Move(told), [0, 0]).expect("it is legal");
             assert_eq!(checkers(&again), checkers(&after), "game {seed}");
             assert_eq!(mirrored(&mirrored(&after)), after);

@@ -3,7 +3,7 @@ use Rattle.fibs_lines.specs.Lines.{kept_limit}
 use Rattle.fibs_lines.specs.Progress.{kept}
 use Rattle.fibs_lines.specs.LinesValue.{StandsAfter, lines_value}
 use Rattle.fibs_lines.proofs.FeedLemmas.{kept_of, KeptAfter-from_stands, value_where_lent, value_where_not_lent}
-use Rattle.fibs_lines.proofs.FeedLemmas.{bytes_of_front}
+use Rattle.fibs_lines.proofs.FeedLemmas.{bytes_of_head}
 use Rattle.fibs_lines.proofs.ReturnLemmas.{take_at_limit}
 use Rattle.fibs_lines.proofs.lines.Lines.unfinished.Goals as goal
 
@@ -12,9 +12,9 @@ returns c = λ s stands.
     let u = c.self.inside.unfinished in
     let now : c.args.self.now ≡ lines_value u false =
     sym c.self.view_is ∙ value_where_not_lent u c.self.inside.lent c.if-self.false in
-    take_at_limit kept_limit c.min.result c.as_slice-front.result.now c.min.ensures
-    ∙ ap (take kept_limit) c.as_slice-front.ensures
-    ∙ bytes_of_front (kept u) s (KeptAfter-from_stands (lines_value u false) s
+    take_at_limit kept_limit c.min.result c.as_slice-head.result.now c.min.ensures
+    ∙ ap (take kept_limit) c.as_slice-head.ensures
+    ∙ bytes_of_head (kept u) s (KeptAfter-from_stands (lines_value u false) s
     (subst (λ v. StandsAfter v s) now stands))
 
 pub returns-then-self : goal.returns-then-self
@@ -22,5 +22,5 @@ returns-then-self c = λ s stands.
     let u = c.self.inside.unfinished in
     let now : c.args.self.now ≡ lines_value u true =
     sym c.self.view_is ∙ value_where_lent u c.self.inside.lent c.if-self.true in
-    bytes_of_front (kept_of (lines_value u true)) s
+    bytes_of_head (kept_of (lines_value u true)) s
     (KeptAfter-from_stands (lines_value u true) s (subst (λ v. StandsAfter v s) now stands))

@@ -1,5 +1,0 @@
-use Rattle.std.proofs.Common.{refl}
-use Rattle.fibs_session.proofs.hearing.read_line.Goals as goal
-
-pub returns-then-line : goal.returns-then-line
-returns-then-line c = rw c.if-line.true refl
