@@ -18,7 +18,7 @@ import tempfile
 import threading
 
 sys.dont_write_bytecode = True
-from props.checks import Failed, same  # noqa: E402
+from props.checks import Failed, same, try_all  # noqa: E402
 from props.schemas import fault_in, schema  # noqa: E402
 
 ROOT = pathlib.Path(__file__).resolve().parent.parent
@@ -289,18 +289,7 @@ CASES = [plays_are_these, plays_say_what_is_listed, other_lines_are_as_shown, bo
 def main():
     if len(sys.argv) != 2:
         sys.exit('usage: tests/accounts_json.py PROGRAM')
-    program = str(pathlib.Path(sys.argv[1]).resolve())
-    failed = 0
-    for case in CASES:
-        name = case.__name__.replace('_', ' ')
-        try:
-            case(program)
-            print('ok      %s' % name)
-        except Exception as error:
-            failed += 1
-            print('FAILED  %s: %s' % (name, str(error)[:600]))
-    print('%d passed, %d failed' % (len(CASES) - failed, failed))
-    return 1 if failed else 0
+    return try_all(CASES, str(pathlib.Path(sys.argv[1]).resolve()))
 
 
 if __name__ == '__main__':

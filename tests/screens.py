@@ -688,6 +688,26 @@ def a_terminal_on_one_side_alone(server):
              '20:15 bob says: hi\nunknown: help lists the words\n')
 
 
+def an_order_of_the_settings_is_in_no_typed_line(server):
+    """Of a pipe a typed line may come in parts: the order that the settings ask for waits for its end."""
+    with tempfile.TemporaryDirectory() as room:
+        config, pipe = os.path.join(room, 'config'), os.path.join(room, 'typed')
+        pathlib.Path(config).write_text('order roll\n')
+        os.mkfifo(pipe)
+        words = [PROGRAM, 'connect', '127.0.0.1', str(server.port), 'ann']
+        player = Terminal([*FROM_FILE, pipe, *words], FIBS_CONFIG=config)
+        with open(pipe, 'w', buffering=1) as typed:
+            # both at once
+            typed.write(PASSWORD + '\nsay as you ')
+            typed.flush()
+            server.accept()
+            same('the login', server.line(), LOGIN)
+            typed.write('wish\n')
+            same('what was typed', server.line(), 'say as you wish')
+            player.sees('ordered: the client rolls')
+        player.ends(0)
+
+
 CASES = [
     a_game_from_login_to_its_end_with_fibs_play, the_same_game_through_a_pipe, the_same_game_where_lines_are_edited,
     words_are_completed, the_question_ends, a_stop_does_not_show_the_password, a_game_ends,
@@ -699,6 +719,7 @@ CASES = [
     a_server_that_never_stops_talking, eight_megabytes_at_once,
     a_server_that_closes, nothing_is_done_while_nothing_happens, escape_sequences, stopped_and_continued,
     stopped_under_fibs_play, closed_in_mid_picture, a_terminal_on_one_side_alone,
+    an_order_of_the_settings_is_in_no_typed_line,
 ]
 
 

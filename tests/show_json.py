@@ -15,7 +15,7 @@ import subprocess
 import sys
 
 sys.dont_write_bytecode = True
-from props.checks import Failed, same  # noqa: E402
+from props.checks import Failed, same, try_all  # noqa: E402
 from props.schemas import fault_in, schema  # noqa: E402
 
 ROOT = pathlib.Path(__file__).resolve().parent.parent
@@ -200,18 +200,7 @@ CASES = [the_rows_are_printed, the_schema_has_no_other_message, the_first_bytes_
 def main():
     if len(sys.argv) != 2:
         sys.exit('usage: tests/show_json.py PROGRAM')
-    program = str(pathlib.Path(sys.argv[1]).resolve())
-    failed = 0
-    for case in CASES:
-        name = case.__name__.replace('_', ' ')
-        try:
-            case(program)
-            print('ok      %s' % name)
-        except Exception as error:
-            failed += 1
-            print('FAILED  %s: %s' % (name, error))
-    print('%d passed, %d failed' % (len(CASES) - failed, failed))
-    return 1 if failed else 0
+    return try_all(CASES, str(pathlib.Path(sys.argv[1]).resolve()))
 
 
 if __name__ == '__main__':

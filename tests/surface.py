@@ -16,7 +16,7 @@ import sys
 import tempfile
 
 from props import meanings
-from props.checks import Failed, same
+from props.checks import Failed, same, try_all
 
 ROOT = pathlib.Path(__file__).resolve().parent.parent
 
@@ -466,17 +466,7 @@ CASES = [
 
 def main():
     program = pathlib.Path(sys.argv[1]).resolve() if len(sys.argv) > 1 else None
-    failed, cases = 0, CASES + ([the_program_takes_the_typed_lines] if program else [])
-    for case in cases:
-        name = case.__name__.replace('_', ' ')
-        try:
-            case(program)
-            print('ok      %s' % name)
-        except Exception as error:
-            failed += 1
-            print('FAILED  %s: %s' % (name, error))
-    print('%d passed, %d failed' % (len(cases) - failed, failed))
-    return 1 if failed else 0
+    return try_all(CASES + ([the_program_takes_the_typed_lines] if program else []), program)
 
 
 if __name__ == '__main__':

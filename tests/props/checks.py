@@ -12,3 +12,19 @@ def same(what, found, wanted):
     """They have to be the same."""
     if found != wanted:
         raise Failed('%s: %r, and not %r' % (what, found, wanted))
+
+
+def try_all(cases, program):
+    """Tries each case on a program, and prints how it went, and then `N passed, M failed`. The status is 0 if all have
+    passed."""
+    failed = 0
+    for case in cases:
+        name = case.__name__.replace('_', ' ')
+        try:
+            case(program)
+            print('ok      %s' % name)
+        except Exception as error:
+            failed += 1
+            print('FAILED  %s: %s' % (name, str(error)[:600]))
+    print('%d passed, %d failed' % (len(cases) - failed, failed))
+    return 1 if failed else 0

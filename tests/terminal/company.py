@@ -102,9 +102,9 @@ def talk_is_kept_and_answered(server):
     rows = rows_after(ann, 'talk', 'eve shouts: nice')
     same('how many', (len(rows), rows[0].endswith('dirk shouts: shout number 7')), (20, True))
     same('who spoke to her', rows[-2].endswith('bob says: Good evening'), True)
-    ann.type('re you too')
-    ann.reads('sent tell bob you too')
-    same('what was sent', server.line(), 'tell bob you too')
+    ann.type(' RE You too')
+    ann.reads('sent tell bob You too')
+    same('what was sent', server.line(), 'tell bob You too')
     ann.close()
 
 

@@ -254,6 +254,18 @@ def the_order_of_the_settings_is_given_on_each_connection():
             ann.type('open')
         ann.close()
         server.close()
+        pathlib.Path(path).write_text('# no order\n')
+        server = Server()
+        ann = Person(server.port, FIBS_CONFIG=path)
+        server.accept()
+        server.line()
+        server.send(WELCOME, OWN_INFO % 'ann', BOARD.replace(':1:1:1:0:1:', ':2:0:1:0:1:'))
+        ann.advised('hint', 'roll')
+        ann.type('say hi')
+        ann.reads('sent say hi')
+        same('without the line', [server.line() for _ in range(3)], ['set boardstyle 3', 'board', 'say hi'])
+        ann.close()
+        server.close()
 
 
 @scene

@@ -1,6 +1,6 @@
 """Standing orders to roll, worked out by hand: rows as in world.py."""
 
-from world import play, run_all
+from world import informed, play, run_all
 
 # An order before the login, and both first boards in one piece.
 ORDERED = [
@@ -20,27 +20,10 @@ ORDERED = [
     ('deliver 10000', 'shown 1 {ROLLED}'),
 ]
 
-# A connection whose first two boards are on their way.
-READY = [
-    ('open', 'opened 1'),
-    ('serve 1 1 1', 'loggedin 1'),
-    ('text {WELCOME}',),
-    ('text {INFO}',),
-    ('deliver 10000', 'welcomed 1', 'informed 1 0 0'),
-    ('serve 1 1 1',),
-    ('serve 1 1 1',),
-]
+# A connection whose first two boards are on their way, and the second one.
+READY = [*informed(1), ('serve 1 1 1',), ('serve 1 1 1',)]
 
-# The second connection, up to its first two boards.
-READY_AGAIN = [
-    ('open', 'opened 2'),
-    ('serve 2 1 1', 'loggedin 2'),
-    ('text {WELCOME}',),
-    ('text {INFO}',),
-    ('deliver 10000', 'welcomed 2', 'informed 2 0 0'),
-    ('serve 2 1 1',),
-    ('serve 2 1 1',),
-]
+READY_AGAIN = [*informed(2), ('serve 2 1 1',), ('serve 2 1 1',)]
 
 # An order is given, and rolls at the first of two boards.
 ROLLS = [

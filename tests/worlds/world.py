@@ -9,6 +9,18 @@ import subprocess
 
 from boards import NAMED
 
+
+def informed(number):
+    """A connection by its number, up to messages 1 and 2."""
+    return [
+        ('open', 'opened %d' % number),
+        ('serve %d 1 1' % number, 'loggedin %d' % number),
+        ('text {WELCOME}',),
+        ('text {INFO}',),
+        ('deliver 10000', 'welcomed %d' % number, 'informed %d 0 0' % number),
+    ]
+
+
 # What is refused, in the order in which it is named.
 REFUSED = [
     ('own {ONE_STEP}', 'refused 6 UserDecides'),
@@ -53,11 +65,7 @@ CUT_UP = [
 
 # The server's board becomes another one if the user does not decide.
 OWN_BOARDS = [
-    ('open', 'opened 1'),
-    ('serve 1 1 1', 'loggedin 1'),
-    ('text {WELCOME}',),
-    ('text {INFO}',),
-    ('deliver 10000', 'welcomed 1', 'informed 1 0 0'),
+    *informed(1),
     ('own {TO_ROLL}',),
     ('deliver 10000', 'shown 1 {TO_ROLL}'),
     ('click double', 'clicked 1 ok', 'sent 1 {TO_ROLL} double'),
