@@ -74,7 +74,7 @@ def many(data):
 def counted(data):
     """The counts alone."""
     with fibs.Lines() as lines:
-        texts, messages, boards, malformed, cut = lines.count(data)
+        texts, messages, boards, malformed, cut, _sent = lines.count(data)
     return Counter({name: n for name, n in (('text', texts - cut), ('message', messages), ('board', boards),
                                             ('malformed', malformed), ('cut', cut)) if n})
 
