@@ -197,7 +197,8 @@ fibs_status fibs_lines_held(fibs_lines *lines, size_t *len);
 
 /* These bytes, without telnet commands: at most FIBS_MAX_LINE. *len is their number. They have a prompt of the server,
  * since no line end follows that. At the end of a file they are a last line without its end: if fibs_lines_held is not
- * 0, feed a `\n`, which gives it as a line. NO_HANDLE; SHORT, and *len is set. */
+ * 0, feed a `\n`, which gives it as a line. If it is still not 0, the file ended within a telnet command, to which the
+ * `\n` went: feed another one. NO_HANDLE; SHORT, and *len is set. */
 fibs_status fibs_lines_unfinished(fibs_lines *lines, char *text, size_t room, size_t *len);
 
 /* ---- What a line says ---- */

@@ -202,7 +202,8 @@ class Lines(Handle):
 
     def finish(self) -> List[Line]:
         """The line that has not ended, as if it ended here; none if nothing follows the last line end. Closed."""
-        return self.feed(b'\n') if self.held else []
+        # if the stream ended within a telnet command, the first line end goes to that
+        return (self.feed(b'\n') or self.feed(b'\n')) if self.held else []
 
     @property
     def unfinished(self) -> bytes:

@@ -265,6 +265,9 @@ def what_is_unfinished_is_told(counts):
     counts.same((lines.unfinished, lines.finish()), (b'> 3\r', [fibs.read(b'3')]), 'a message without its line end')
     lines.feed(b'x' * (fibs.MAX_LINE + 9))
     counts.same((len(lines.unfinished), lines.finish()[0].cut), (fibs.MAX_LINE, True), 'a long one')
+    for command in b'\xff', b'\xff\xfb':
+        lines.feed(b'12 bob hi' + command)
+        counts.same((lines.finish(), lines.finish()), ([fibs.read(b'12 bob hi')], []), 'an end within %r' % command)
     client = fibs.Client('ann', 'secret')
     counts.same((client.ready, client.unfinished), (False, b''), 'not connected')
     client.open()
