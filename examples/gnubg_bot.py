@@ -223,8 +223,9 @@ class Bot:
         except OSError:
             pass
         if self.save:
-            # half a line is not to be read with the first one of the next connection
-            self.save.write(b'' if tail.endswith(b'\n') else b'\n')
+            # Half a line is not to be read with the first one of the next connection. If the connection ended within
+            # a telnet command, the first line end goes to that. One after a CR never does.
+            self.save.write(b'' if tail.endswith(b'\r\n') else b'\n\n')
         if self.board:
             self.seen = time.monotonic()
         self.lost = self.client.lose() or self.lost

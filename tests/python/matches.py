@@ -260,6 +260,16 @@ def bot_module():
     return gnubg_bot
 
 
+# A bot that is not run, and has no GNU Backgammon.
+NOBODY = ['localhost', '1', 'ann', '--join', 'bob', '--gnubg', 'none']
+
+
+def bot_of(gnubg_bot, *words):
+    """That bot, with more words. It prints nothing."""
+    gnubg_bot.say = lambda _: None
+    return gnubg_bot.Bot(gnubg_bot.options_of([*NOBODY, *words]), b'secret')
+
+
 def gnu_backgammon_understands_each_board(counts):
     """However the server spells it: the answer is a listed play, and one that a player would make."""
     gnubg_bot = bot_module()
@@ -298,9 +308,7 @@ DECIDED = [
 
 def an_answer_that_is_not_valid_is_not_taken(counts):
     gnubg_bot = bot_module()
-    words = ['localhost', '1', 'ann', '--join', 'bob', '--gnubg', 'none']
-    bot = gnubg_bot.Bot(gnubg_bot.options_of(words), b'secret')
-    gnubg_bot.say = lambda _: None
+    bot = bot_of(gnubg_bot)
     for one, answers in DECIDED:
         for answer, wanted in answers.items():
             bot.ask = lambda _, answer=answer: answer
@@ -309,9 +317,32 @@ def an_answer_that_is_not_valid_is_not_taken(counts):
             counts.check(one.allows(decision), 'it is allowed')
     counts.same(bot.gnubg.ask(b'board'), '', 'a program that is not there has no answer')
     bot.close()
-    told = subprocess.run([sys.executable, '-B', gnubg_bot.__file__, *words], input='secret\n', capture_output=True,
+    told = subprocess.run([sys.executable, '-B', gnubg_bot.__file__, *NOBODY], input='secret\n', capture_output=True,
                           text=True, env={**os.environ, 'PYTHONPATH': str(ROOT / 'python')})
     counts.same(told.returncode, 4, 'without GNU Backgammon: %s' % told.stdout)
+
+
+def hears(bot, *pieces):
+    """The bot talks over a connection for each piece, which is all that comes on it."""
+    for piece in pieces:
+        bot.server, server = socket.socketpair()
+        with bot.server, server:
+            server.sendall(piece)
+            server.shutdown(socket.SHUT_WR)
+            bot.talk()
+
+
+def half_a_line_ends_in_the_file_of_a_session(counts):
+    """However the connection ends: what the next one begins with is a line of its own."""
+    gnubg_bot = bot_module()
+    for end in b'', b'\r', b'\r\n', b'\n', b'\xff', b'\xff\xfb', b'\xff\n', b'\xff\xfb\n':
+        with tempfile.TemporaryDirectory() as folder:
+            path = pathlib.Path(folder, 'ann.session')
+            bot = bot_of(gnubg_bot, '--save', str(path))
+            hears(bot, b'12 bob hi' + end, b'\xff\xfb\x0112 bob hello\r\n')
+            bot.close()
+            found = [line.text for line in fibs.Lines(path) if line.text]
+        counts.same(found, [b'12 bob hi', b'12 bob hello'], 'an end of %r' % end)
 
 
 def what_goes_wrong_is_said(counts):
@@ -340,5 +371,5 @@ def what_goes_wrong_is_said(counts):
         server.wait()
 
 
-TESTS = [an_answer_that_is_not_valid_is_not_taken, what_goes_wrong_is_said, gnu_backgammon_understands_each_board,
-         a_match_is_played_once_over_connections_that_are_cut]
+TESTS = [an_answer_that_is_not_valid_is_not_taken, half_a_line_ends_in_the_file_of_a_session, what_goes_wrong_is_said,
+         gnu_backgammon_understands_each_board, a_match_is_played_once_over_connections_that_are_cut]
