@@ -285,7 +285,8 @@ class Bot:
                     say('confirmed %s' % heard.confirmed.command(line.board.direction))
                 self.see(line.board)
             elif line.kind == fibs.MESSAGE:
-                self.is_in = True
+                # other messages may come before: a server may tell everybody who logs in
+                self.is_in = self.is_in or self.client.ready
                 self.players.note(line.text)
                 if line.number == 2:
                     self.set_up(line.fields)

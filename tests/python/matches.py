@@ -345,6 +345,32 @@ def half_a_line_ends_in_the_file_of_a_session(counts):
         counts.same(found, [b'12 bob hi', b'12 bob hello'], 'an end of %r' % end)
 
 
+class Sent:
+    """The bot's end of a connection, which keeps what is sent."""
+
+    def __init__(self):
+        self.lines = []
+
+    def sendall(self, data):
+        self.lines += data.decode().splitlines()
+
+
+LOGIN = b'1 ann 1041253132 localhost\r\n'
+OWN = b'2 ann 1 1 0 %d 0 0 1 1 10 %d 1 0 0 1500.00 0 %d 0 0 0 UTC\r\n'
+
+
+def it_is_in_when_the_server_has_taken_the_login(counts):
+    bot = bot_of(bot_module())
+    bot.server = Sent()
+    bot.client.open()
+    for what, piece, is_in in [('who comes and goes', b'login: \r\n7 eve eve logs in.\r\n8 eve eve drops.\r\n', False),
+                               ('message 1', LOGIN, False), ('message 2', OWN % (0, 0, 1), True),
+                               ('a text', b'Welcome.\r\n', True)]:
+        bot.hear(piece)
+        counts.same(bot.is_in, is_in, what)
+    bot.close()
+
+
 def what_goes_wrong_is_said(counts):
     if not matchfiles.gnubg():
         counts.leave_out('there is no gnubg')
@@ -371,5 +397,6 @@ def what_goes_wrong_is_said(counts):
         server.wait()
 
 
-TESTS = [an_answer_that_is_not_valid_is_not_taken, half_a_line_ends_in_the_file_of_a_session, what_goes_wrong_is_said,
+TESTS = [an_answer_that_is_not_valid_is_not_taken, half_a_line_ends_in_the_file_of_a_session,
+         it_is_in_when_the_server_has_taken_the_login, what_goes_wrong_is_said,
          gnu_backgammon_understands_each_board, a_match_is_played_once_over_connections_that_are_cut]
