@@ -165,8 +165,8 @@ class Bot:
         self.save = open(options.save, 'ab', buffering=0) if options.save else None
         # whether a match was begun, whether it is over, and whether the last decision was refused
         self.has_begun = self.is_over = self.is_refused = False
-        # whether the server has taken the login, and its last board, on this connection
-        self.is_in, self.board = False, None
+        # whether the server has taken the login, its last board, and what was toggled, on this connection
+        self.is_in, self.board, self.toggled = False, None, []
         # when the last board was seen, the other player was looked for, a decision was sent, a connection was made
         self.seen = self.sought = self.sent = self.opened = time.monotonic()
         # the decision that a lost connection left open
@@ -213,7 +213,7 @@ class Bot:
     def talk(self):
         """One connection, up to its end."""
         self.players.clear()
-        self.is_in, self.board, self.sought, tail = False, None, 0, b''
+        self.is_in, self.board, self.toggled, self.sought, tail = False, None, [], 0, b''
         self.opened = time.monotonic()
         try:
             self.server.sendall(self.client.open())
@@ -294,12 +294,14 @@ class Bot:
                 self.read(line.text.decode('latin-1').strip())
 
     def set_up(self, info):
-        """Turns off what the server would play by itself, and is ready. The server says so at the next login."""
-        automove, greedy, ready = info[4], info[10], info[16]
-        for is_wrong, command in ((not ready, 'ready'), (automove, 'automove'), (greedy, 'greedy')):
-            if is_wrong:
-                self.command('toggle ' + command)
-        if automove or greedy:
+        """Turns off what the server would play by itself, and is ready. The server says so at the next login. If it
+        sends message 2 again before, nothing is toggled back."""
+        is_wrong = {'ready': not info[16], 'automove': info[4], 'greedy': info[10]}
+        toggled = [name for name in is_wrong if is_wrong[name] and name not in self.toggled]
+        for name in toggled:
+            self.command('toggle ' + name)
+        self.toggled += toggled
+        if 'automove' in toggled or 'greedy' in toggled:
             self.command('bye')
 
     def read(self, text):

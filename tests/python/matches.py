@@ -371,6 +371,18 @@ def it_is_in_when_the_server_has_taken_the_login(counts):
     bot.close()
 
 
+def each_toggle_is_sent_once_on_a_connection(counts):
+    for one, again, wanted in [((1, 1, 0), (1, 1, 0), ['ready', 'automove', 'greedy']),
+                               ((0, 0, 0), (0, 0, 0), ['ready']), ((0, 0, 1), (1, 0, 1), ['automove'])]:
+        bot = bot_of(bot_module())
+        bot.server = Sent()
+        bot.client.open()
+        bot.hear(LOGIN + OWN % one + OWN % again)
+        found = [line[7:] for line in bot.server.lines if line.startswith('toggle ')]
+        counts.same(found, wanted, 'message 2 with %s, then with %s' % (one, again))
+        bot.close()
+
+
 def what_goes_wrong_is_said(counts):
     if not matchfiles.gnubg():
         counts.leave_out('there is no gnubg')
@@ -398,5 +410,6 @@ def what_goes_wrong_is_said(counts):
 
 
 TESTS = [an_answer_that_is_not_valid_is_not_taken, half_a_line_ends_in_the_file_of_a_session,
-         it_is_in_when_the_server_has_taken_the_login, what_goes_wrong_is_said,
-         gnu_backgammon_understands_each_board, a_match_is_played_once_over_connections_that_are_cut]
+         it_is_in_when_the_server_has_taken_the_login, each_toggle_is_sent_once_on_a_connection,
+         what_goes_wrong_is_said, gnu_backgammon_understands_each_board,
+         a_match_is_played_once_over_connections_that_are_cut]
