@@ -420,6 +420,7 @@ def fibs_play_takes_what_the_settings_say(_program):
         for content, words, wanted in (
                 ('# server a 1 b\nserver localhost 4321 *\nserver b 2 c\n', [], 'connect localhost 4321 *'),
                 ('log my log\r\nserver localhost 4321 ann\r\n', [], 'connect --log my log localhost 4321 ann'),
+                ('log my #1 log\nserver localhost 4321 ann\n', [], 'connect --log my #1 log localhost 4321 ann'),
                 ('log my log\nserver localhost 4321 ann\n', ['--log', 'other', 'h', '1', 'n'],
                  'connect --log other h 1 n'),
                 ('quiet\n', ['h', '1', 'n'], 'connect h 1 n')):
