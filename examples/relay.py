@@ -68,7 +68,7 @@ class Page(http.server.SimpleHTTPRequestHandler):
             return
         self.close_connection = True
         key = self.headers.get('Sec-WebSocket-Key', '')
-        if not key or self.headers.get('Origin') != 'http://' + self.headers.get('Host', ''):
+        if not key or not self.is_own_page():
             self.send_error(403)
             return
         try:
@@ -84,6 +84,14 @@ class Page(http.server.SimpleHTTPRequestHandler):
         self.end_headers()
         with there:
             self.relay(there)
+
+    def is_own_page(self):
+        """True if the page that asks is one of this relay's own address. That its origin is the host that it asks is
+        not enough: a stranger's page has a name of his, and he may lead that name here once the page is loaded."""
+        host, port = self.headers.get('Host'), self.server.server_address[1]
+        # a browser leaves the port of http out
+        own = [name if port == 80 else '%s:%d' % (name, port) for name in ('127.0.0.1', 'localhost')]
+        return host in own and self.headers.get('Origin') == 'http://' + host
 
     def relay(self, there):
         """Hands the bytes on, until one side ends."""
