@@ -10,7 +10,7 @@ from . import _library
 from ._boards import Board
 from ._handles import Handle
 from ._texts import Bytes, Text, Value, Word, bytes_of, piece_of, told_field, told_text
-from .errors import NoField, check
+from .errors import FieldBadName, NoField, check
 from .messages import KINDS as MESSAGES
 from .messages import Message
 
@@ -61,7 +61,9 @@ class Line(NamedTuple):
 
     @property
     def board(self) -> Board:
-        """The board that the line says. One of NotABoard."""
+        """The board that the line says. One of NotABoard; a line that was cut is not read, and says none."""
+        if self.cut:
+            raise FieldBadName
         return Board._said(self.text) if self.kind == Kind.BOARD else Board(self.text)
 
     @property

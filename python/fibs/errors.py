@@ -162,7 +162,7 @@ class FieldOutOfRange(NotABoard):
 
 
 class FieldBadName(NotABoard):
-    """A name, a word or a tail is not valid, or the first field is not `board`."""
+    """A name, a word or a tail is not valid, the first field is not `board`, or the line was cut."""
     status = 305
 
 

@@ -45,6 +45,19 @@ def lines_have_their_kinds(counts):
     counts.raises(fibs.FieldBadName, lambda: told[2].board)
 
 
+def a_line_that_was_cut_says_nothing(counts):
+    """What is kept of it may be a whole board or message."""
+    client = fibs.Client('ann', 'secret')
+    client.open()
+    for start in REAL, WHO[0], REAL[:30], b'hello':
+        piece = start + b' ' * fibs.MAX_LINE + b'\n'
+        for line in fibs.Lines().feed(piece)[0], next(client.feed(piece)).line:
+            counts.same((line.cut, line.kind, line.message, line.fields), (True, fibs.TEXT, None, ()), '%r' % start)
+            counts.raises(fibs.FieldBadName, lambda line=line: line.board)
+            counts.same(wrong_field(lambda line: line.board, line), None, 'the field of %r' % start)
+    client.close()
+
+
 def a_stream_may_be_anything_that_is_read(counts):
     data = b'a\nb\n' * 40000
     for what, stream in [('bytes', data), ('a bytearray', bytearray(data)), ('a memoryview', memoryview(data)),
@@ -612,8 +625,9 @@ def the_version_is_that_of_the_library(counts):
 
 
 TESTS = [a_board_after_a_decision, a_board_of_the_other_side, the_end_of_a_match, what_is_unfinished_is_told,
-         lines_have_their_kinds, a_stream_may_be_anything_that_is_read, after_a_break_the_iteration_goes_on,
-         a_path_is_opened_and_closed, pieces_are_fed_by_hand, boards_have_names_for_their_numbers,
+         lines_have_their_kinds, a_line_that_was_cut_says_nothing, a_stream_may_be_anything_that_is_read,
+         after_a_break_the_iteration_goes_on, a_path_is_opened_and_closed, pieces_are_fed_by_hand,
+         boards_have_names_for_their_numbers,
          both_colours_and_directions_count_from_their_own_side, lines_that_are_no_board_say_why,
          the_rules_are_those_of_the_program, decisions_are_spelled_and_read, messages_have_fields,
          each_message_has_a_tuple_of_its_own, a_client_sends_and_waits, what_is_not_taken_is_heard_later,
