@@ -7,7 +7,7 @@ fn main() -> io::Result<()> {
     let (mut texts, mut messages, mut boards, mut malformed) = (0_u64, 0_u64, 0_u64, 0_u64);
     let mut lines = Lines::of(io::stdin().lock());
     for line in &mut lines {
-        match fibs::read(&line?.bytes) {
+        match line?.reading() {
             Reading::Text(_) => texts += 1,
             Reading::Numbered(_) => messages += 1,
             Reading::Board(_) => boards += 1,

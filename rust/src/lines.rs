@@ -1,6 +1,6 @@
 //! The lines of a stream, lent and owned. Written by hand.
 
-use crate::{Line, Lines};
+use crate::{Line, Lines, Reading};
 use std::io::{self, Read};
 use std::iter::FusedIterator;
 
@@ -42,12 +42,19 @@ impl Lines {
     ///
     /// ```
     /// for line in fibs::Lines::of(&b"3\r\n4\r\n"[..]) {
-    ///     assert!(matches!(fibs::read(&line?.bytes), fibs::Reading::Numbered(_)));
+    ///     assert!(matches!(line?.reading(), fibs::Reading::Numbered(_)));
     /// }
     /// # Ok::<(), std::io::Error>(())
     /// ```
     pub fn of<R: Read>(stream: R) -> ReadLines<R> {
         ReadLines { stream, lines: Lines::new(), room: vec![0; 1 << 16], from: 0, to: 0 }
+    }
+}
+
+impl<'a> Line<'a> {
+    /// What the line is, by [`read`](crate::read). A line that was cut is a text.
+    pub fn reading(&self) -> Reading<'a> {
+        if self.cut { Reading::Text(self.bytes) } else { crate::read(self.bytes) }
     }
 }
 
@@ -58,6 +65,13 @@ pub struct OwnedLine {
     pub bytes: Vec<u8>,
     /// Whether it had more bytes than are kept.
     pub cut: bool,
+}
+
+impl OwnedLine {
+    /// What the line is, by [`read`](crate::read). A line that was cut is a text.
+    pub fn reading(&self) -> Reading<'_> {
+        Line { bytes: &self.bytes, cut: self.cut }.reading()
+    }
 }
 
 impl From<Line<'_>> for OwnedLine {

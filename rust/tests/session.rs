@@ -54,6 +54,17 @@ fn lines_are_the_same_however_they_are_cut() {
 }
 
 #[test]
+fn a_line_that_was_cut_is_a_text() {
+    let session = [BOARD, &" ".repeat(fibs::LIMIT), "\n", BOARD, "  \n12 bob hi\n"].concat();
+    let lines: Vec<OwnedLine> = Lines::of(session.as_bytes()).map(Result::unwrap).collect();
+    assert!(matches!(lines[0].reading(), Reading::Text(text) if text.len() == fibs::LIMIT));
+    assert!(matches!(lines[1].reading(), Reading::Board(_)));
+    let mut read = Vec::new();
+    Lines::new().each(session.as_bytes(), |line| read.push(line.reading() == fibs::read(line.bytes)));
+    assert_eq!(read, [false, true, true]);
+}
+
+#[test]
 fn a_stream_that_fails_is_asked_again() {
     struct Stream(Vec<Result<&'static [u8], ErrorKind>>);
     impl Read for Stream {
