@@ -459,7 +459,7 @@ def a_quiet_server_is_waited_for_half_a_second(server):
     if found is None:
         print('        the system does not show what is set of its sockets: not tried', flush=True)
     else:
-        same('at once, seconds, milliseconds', found, [(True, 120, 500)])
+        same('at once, seconds, seconds after a command, milliseconds', found, [(True, 120, 120, 500)])
     began = time.monotonic()
     player.type_bytes(b'\n\n\n\ndance\n')
     same('printed', player.line(), 'unknown\n')

@@ -238,7 +238,7 @@ def waits_in_vain(program):
     if found is None:
         print('        the system does not show what is set of its sockets: not tried', flush=True)
     else:
-        same('at once, seconds, milliseconds', found, [(True, 0, 10000)] * 2)
+        same('at once, seconds, seconds after a portion, milliseconds', found, [(True, 0, 0, 10000)] * 2)
 
 
 def a_stranger_who_says_nothing_and_stays():

@@ -42,8 +42,9 @@ def known_to_be_gone(one):
 
 
 def options(job):
-    """Of each connection that another process has open: whether its bytes leave at once, within how many seconds its other
-    end is known to be gone, and for how many milliseconds a read waits. None if the system does not let them be seen."""
+    """Of each connection that another process has open: whether its bytes leave at once; within how many seconds its
+    other end is known to be gone if nothing was sent, and if something was; and for how many milliseconds a read waits.
+    None if the system does not let them be seen."""
     sockets = sockets_of(job)
     if sockets is None:
         return None
@@ -52,6 +53,8 @@ def options(job):
         if not is_listening(one):
             seconds, micros = struct.unpack('ll', one.getsockopt(socket.SOL_SOCKET, socket.SO_RCVTIMEO, 16))
             found.append((bool(one.getsockopt(socket.IPPROTO_TCP, socket.TCP_NODELAY)),
-                          known_to_be_gone(one), 1000 * seconds + micros // 1000))
+                          known_to_be_gone(one),
+                          one.getsockopt(socket.IPPROTO_TCP, socket.TCP_USER_TIMEOUT) // 1000,
+                          1000 * seconds + micros // 1000))
         one.close()
     return sorted(found)

@@ -97,13 +97,13 @@ def a_dead_router_is_seen(server):
 
 @with_server
 def what_is_set_of_the_connection(server):
-    """Each command leaves at once, and a read waits for 20 milliseconds."""
+    """Each command leaves at once, a server that is gone is known to be gone, and a read waits for 20 milliseconds."""
     ann = greeted(server)
     found = peeking.options(ann.job)
     if found is None:
         print('        the system does not show what is set of its sockets: not tried', flush=True)
     else:
-        same('at once, seconds, milliseconds', found, [(True, 120, 20)])
+        same('at once, seconds, seconds after a command, milliseconds', found, [(True, 120, 120, 20)])
     ann.close()
 
 

@@ -42,6 +42,12 @@ pub mod net {
     #[cfg(not(any(target_os = "macos", target_os = "ios")))]
     pub use libc::TCP_KEEPIDLE;
 
+    #[cfg(any(target_os = "linux", target_os = "android", target_os = "fuchsia"))]
+    pub use libc::TCP_USER_TIMEOUT;
+    /// This system has no such option: none has this number.
+    #[cfg(not(any(target_os = "linux", target_os = "android", target_os = "fuchsia")))]
+    pub const TCP_USER_TIMEOUT: i32 = -1;
+
     /// Sets an option of a socket to the first `len` bytes of `value`.
     ///
     /// # Safety
@@ -74,6 +80,7 @@ pub mod net {
     pub const TCP_KEEPIDLE: i32 = 3;
     pub const TCP_KEEPCNT: i32 = 16;
     pub const TCP_KEEPINTVL: i32 = 17;
+    pub const TCP_USER_TIMEOUT: i32 = -1;
 
     /// It says that no option was set.
     ///

@@ -1,4 +1,4 @@
-//! TCP keep-alive: a connection whose other end has gone silently is found to be over.
+//! TCP's own time limits: a connection whose other end has gone silently is found to be over.
 ghost use Rattle.libc.specs.Net.{SockOption};
 
 use libc::net as c;
@@ -13,6 +13,10 @@ const BETWEEN_SECONDS: i32 = 15;
 /// After how many probes without an answer the connection is over.
 const PROBES: i32 = 4;
 
+/// After how many milliseconds the connection is over if what was sent is not received. While it is sent again and
+/// again the other end is not probed, and the system's own limit is a quarter of an hour.
+const UNRECEIVED_MILLIS: i32 = 120_000;
+
 /// Sets an option of a socket to a number. If it can't be set it stays as it is.
 fn set(fd: RawFd, level: i32, name: i32, number: i32)
     requires { SockOption level name }
@@ -22,10 +26,12 @@ fn set(fd: RawFd, level: i32, name: i32, number: i32)
     let _done = unsafe { c::setsockopt(fd, level, name, &value, 4) };
 }
 
-/// Asks for these probes, so that a connection whose other end is gone is over within two minutes.
+/// Asks for these probes and this limit, so that a connection whose other end is gone is over within two minutes,
+/// whether or not something was sent.
 pub fn keep_alive(fd: RawFd) {
     set(fd, c::IPPROTO_TCP, c::TCP_KEEPIDLE, QUIET_SECONDS);
     set(fd, c::IPPROTO_TCP, c::TCP_KEEPINTVL, BETWEEN_SECONDS);
     set(fd, c::IPPROTO_TCP, c::TCP_KEEPCNT, PROBES);
+    set(fd, c::IPPROTO_TCP, c::TCP_USER_TIMEOUT, UNRECEIVED_MILLIS);
     set(fd, c::SOL_SOCKET, c::SO_KEEPALIVE, 1);
 }
