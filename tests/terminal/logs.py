@@ -40,7 +40,8 @@ def each_line_as_it_came_and_what_was_sent(server):
     ann = Person(server.port, words=('--log', path))
     server.accept()
     server.line()
-    odd = b'12 bob \x1b[2J \xff\xff caf\xe9'
+    # telnet sends the byte 255 twice; here it is in the line and ends it
+    odd = b'12 bob \x1b[2J \xff\xff caf\xe9\xff\xff'
     for line in WELCOME.encode(), OWN.encode(), b'> ' + BOARD.encode(), odd, b'5 bob - - 1 0 15x0 1 1 1 h - -':
         server.send_bytes(line + b'\r\n')
     ann.reads('caf')
@@ -62,8 +63,8 @@ def each_line_as_it_came_and_what_was_sent(server):
     ann.close()
     done = subprocess.run([PROGRAM, 'show'], input=held, capture_output=True, check=False)
     shown = done.stdout.split(b'\n')
-    for line in (b'message ' + WELCOME.encode(), b'message ' + OWN.encode(), BOARD.encode(), b'malformed 5 6 NotANumber',
-                 b'text >> roll'):
+    for line in (b'message ' + WELCOME.encode(), b'message ' + OWN.encode(), BOARD.encode(),
+                 b'message 12 bob \\x1b[2J \\xff caf\\xe9\\xff', b'malformed 5 6 NotANumber', b'text >> roll'):
         same('fibs show has %r' % line[:40], line in shown, True)
     same('the status', done.returncode, 0)
 

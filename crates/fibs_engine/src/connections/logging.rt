@@ -58,7 +58,8 @@ impl<W: Write + Drop, E: Write + Drop> Log<W, E> {
 }
 
 /// A stream with a log: each line as it came, without telnet's commands and prompts, and after `>> ` each
-/// line that was sent, but for the first, which is the login. A log that can no longer be written is left as it is.
+/// line that was sent, but for the first, which is the login. A byte 255 is there twice. A log that can no longer be
+/// written is left as it is.
 #[derive(Drop)]
 pub struct Logged<S: Link + Drop, W: Write + Drop, E: Write + Drop> {
     stream: S,
@@ -118,10 +119,23 @@ impl<S: Link + Drop, W: Write + Drop, E: Write + Drop> Logged<S, W, E> {
     }
 }
 
+/// Writes a line with each byte 255 twice, as telnet sends it, since one alone begins a command.
+fn write_doubled<W: Write>(line: &[u8], log: &mut W) -> Result<(), Broken> {
+    let mut start = 0;
+    for at in 0..line.len() {
+        if line[at] == 255 {
+            write_bytes(line[..at + 1].get(start..).unwrap_or(b""), log)?;
+            // what is written next begins with this byte once more
+            start = at;
+        }
+    }
+    write_bytes(line.get(start..).unwrap_or(b""), log)
+}
+
 /// Appends a line to a log.
 fn append<W: Write>(mark: &[u8], line: &[u8], log: &mut W) -> Result<(), Broken> {
     write_bytes(mark, log)?;
-    write_bytes(line, log)?;
+    write_doubled(line, log)?;
     write_bytes(b"\n", log)
 }
 
