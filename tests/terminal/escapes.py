@@ -245,6 +245,19 @@ def a_server_that_is_slow_to_log_in(server):
     ann.close()
 
 
+@with_server
+def a_server_that_refuses_a_login(server):
+    """What it says of it is shown though nothing is typed, and so is that nobody is logged in."""
+    ann = Person(server.port)
+    server.accept()
+    server.send_bytes(b'Welcome to a strict one.\r\nlogin: ')
+    ann.reads('strict one')
+    server.send_bytes(b'\r\n** User not known or wrong password.\r\nlogin: ')
+    ann.reads('** User not known or wrong password.')
+    ann.reads('Not logged in')
+    ann.close()
+
+
 # What is set in the environment, and what is shown then: whether letters are bold, what a letter of another script is,
 # and at what time the user was here last.
 BOLD, AS_IT_IS, ESCAPED, THEN = '\x1b[1m', '\xc3\xa9', '\\xc3\\xa9', '12:58'
@@ -377,5 +390,5 @@ def what_show_says_at_a_terminal():
 SCENES = [a_million_lines, letters_of_other_scripts, what_is_malformed_is_shown, a_flood_does_not_hold_a_typed_line,
           a_host_of_which_one_address_alone_answers, lines_that_are_pasted_are_all_answered,
           nothing_typed_is_lost_when_a_line_comes, the_server_is_heard_after_a_stop, a_server_that_is_slow_to_log_in,
-          what_the_environment_says, the_clock_of_the_place, a_password_that_is_typed, a_password_that_is_asked_for_beside_the_output,
+          a_server_that_refuses_a_login, what_the_environment_says, the_clock_of_the_place, a_password_that_is_typed, a_password_that_is_asked_for_beside_the_output,
           what_show_says_at_a_terminal]

@@ -29,7 +29,8 @@ const GREETING: &[u8] = b"1 ";
 ///
 /// Once it is not quiet for a while: if the last that came is the question for the login, and the user was not greeted
 /// on this connection. Whatever comes meanwhile is kept, up to the greeting, so that a turn that ends then was not
-/// answered, and the question is what was heard last. What was kept is read after that.
+/// answered, and the question is what was heard last. What was kept is read after that; but if it ends in the question
+/// itself, as if the server refuses the login, it is read before the turn ends.
 #[derive(Drop)]
 pub struct Paced<S: Link + Drop> {
     stream: S,
@@ -144,7 +145,7 @@ impl<S: Link + Drop> Paced<S> {
         self.stream.receive(buf)
     }
 
-    /// Waits for the answer to a login.
+    /// Waits for the answer to a login. If the server asks once more instead, what it said before is the answer.
     fn receive_answer(&mut self, buf: &mut [u8]) -> io::Result<usize>
         ensures { ReadsAtMost result buf.new }
     {
@@ -154,8 +155,12 @@ impl<S: Link + Drop> Paced<S> {
                 None => {}
             }
         }
+        let asks_again = self.asked && !self.kept.is_empty();
         self.asked = false;
-        Err(io::Error::from(ErrorKind::WouldBlock))
+        if !asks_again {
+            return Err(io::Error::from(ErrorKind::WouldBlock));
+        }
+        Ok(self.give_kept(buf))
     }
 }
 
