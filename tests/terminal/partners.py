@@ -8,7 +8,7 @@ import tempfile
 from company import HEAD, listed, rows_after
 from escapes import BOARD, WELCOME, greeted, with_server
 from offers import ANN_BEGINS
-from people import Client, Person, at_a_table, near_and_far, same
+from people import PASSWORD_FILE, PROGRAM, Client, Person, Terminal, at_a_table, near_and_far, same
 from props.server import OWN_INFO, Server
 
 SCENES = []
@@ -229,6 +229,28 @@ def the_title_says_whose_turn_it_is():
             same('it is put back last', seen.rstrip().endswith(PUT_BACK), has)
             ann.close()
             server.close()
+
+
+@scene
+def the_title_is_put_back_though_what_is_typed_can_not_be_read():
+    """It comes from a connection that breaks."""
+    server, typed = Server(), Server()
+    ann = Terminal(['bash', '-c', 'port=$1; shift; exec "$@" < "/dev/tcp/127.0.0.1/$port"', 'bash', str(typed.port),
+                    PROGRAM, 'connect', '--password-file', PASSWORD_FILE, '127.0.0.1', str(server.port), 'ann'],
+                   TERM='xterm')
+    typed.accept()
+    server.accept()
+    server.line()
+    server.send(WELCOME, OWN_INFO % 'ann', board_of(1))
+    # an empty line hears the server
+    typed.send_bytes(b'\n')
+    ann.sees('fibs: your turn')
+    typed.reset()
+    ann.ends(4)
+    same('it is put back', PUT_BACK in ann.seen, True)
+    ann.close()
+    typed.close()
+    server.close()
 
 
 @scene

@@ -82,8 +82,9 @@ fn answer_at_terminal<D: Dial, R: Read, V: Watch, W: Write + Drop, C: Clock + Dr
     let mut server = OrderedServer::new(server, orders_roll, is_due);
     let mut watch = OrderedWatch::new(watch, is_due);
     let answer = answer_lines(&mut server, alloc, login, lines, input, &mut watch, front);
+    let left = front.leave();
     let status = unless_memory_ran_out(answer, front)?;
-    front.leave()?;
+    left?;
     Ok(status)
 }
 
