@@ -345,8 +345,8 @@ def forty_columns_keep_each_place_and_the_dice(server):
         ann = Person(server.port, columns=columns, COLUMNS=str(columns), TERM=kind)
         server.accept()
         server.line()
-        server.send(WELCOME, OWN_INFO % 'ann', board_of(1, own=(4, 3)), '12 bob ' + 'word ' * 60)
-        ann.reads('bob says: word')
+        server.send(WELCOME, OWN_INFO % 'ann', board_of(1, own=(4, 3)), '12 bob ' + 'word ' * 60, '12 eve hi')
+        ann.reads('eve says: hi')
         rows = ann.lines()
         if columns == 40:
             at = rows.index(NARROW[0])
