@@ -35,7 +35,7 @@ sub with_width {
 
 # The log of this conversation, and what was read of a line that has not ended.
 my ($log, $begun) = (undef, '');
-seek $log, 0, 2 if defined $ENV{FIBS_PLAY_LOG} && open $log, '<', $ENV{FIBS_PLAY_LOG};
+seek $log, $ENV{FIBS_PLAY_LOG_BEGIN} // 0, 0 if defined $ENV{FIBS_PLAY_LOG} && open $log, '<', $ENV{FIBS_PLAY_LOG};
 
 # The players who are logged in, by what the log has had so far: message 5 lists one, 7 and 8 say who comes and goes.
 my %players;

@@ -1,6 +1,7 @@
 """fibs-play where lines are edited: a window of another width, a title that is put back, names that Tab knows."""
 
 import os
+import pathlib
 import re
 import signal
 import tempfile
@@ -27,8 +28,8 @@ def scene(does):
     return does
 
 
-def plays(server, columns=80, options=(), **more):
-    """Ann, who has logged in by fibs-play, and was greeted."""
+def plays(server, columns=80, options=(), listed=(), **more):
+    """Ann, who has logged in by fibs-play, and was greeted; with the greeting come lines that list players."""
     words = [PLAY, *options, '127.0.0.1', str(server.port), 'ann']
     more = {'FIBS': PROGRAM, 'TERM': 'xterm', 'NO_COLOR': '1', 'FIBS_QUIET': '1', 'LC_ALL': 'C', **more}
     ann = Terminal(words, columns, **more)
@@ -36,7 +37,7 @@ def plays(server, columns=80, options=(), **more):
     ann.type(PASSWORD)
     server.accept()
     same('the login', server.line(), 'login fibs_client 1008 ann ' + PASSWORD)
-    server.send(WELCOME, OWN_INFO % 'ann')
+    server.send(WELCOME, OWN_INFO % 'ann', *listed)
     ann.sees('You are ann')
     same('the first commands', [server.line(), server.line()], ['set boardstyle 3', 'board'])
     return ann
@@ -148,23 +149,34 @@ def a_shell_above_the_program_stops_with_it():
     server.close()
 
 
+def listing(names):
+    """The lines by which a server lists players."""
+    return [*('5 %s - - 1 0 1500.00 1 0 1041253132 localhost - -' % name for name in names), '6']
+
+
 @scene
 def tab_knows_each_player_who_was_listed():
-    """Also one who was on no screen; and not one who has gone since; with a log that is wanted, and without."""
+    """Also one who was on no screen, or was listed at the login; and not one who has gone since; with a log that is
+    wanted, to which it is appended, and without."""
     if not RLWRAP:
         return
     for logs in False, True:
         server = Server()
         with tempfile.TemporaryDirectory() as home:
-            ann = plays(server, options=['--log', home + '/log'] if logs else [], HOME=home, RLWRAP_HOME=home)
+            if logs:
+                pathlib.Path(home, 'log').write_text('7 yorick yorick logs in.\n')
+            ann = plays(server, options=['--log', home + '/log'] if logs else [], HOME=home, RLWRAP_HOME=home,
+                        listed=listing(['yolanda', 'ulrich']))
             ann.type('quiet')
             ann.sees('not who comes and goes')
             names = ['player%03d' % at for at in range(300)] + ['walter', 'zebedee']
-            server.send(*('5 %s - - 1 0 1500.00 1 0 1041253132 localhost - -' % name for name in names), '6')
+            server.send(*listing(names))
             server.send('8 walter walter drops connection.', '12 x listed')
             ann.sees('x says: listed')
             ann.type_bytes(b'tell zeb\t hello\n')
             same('a name that is known', server.line(), 'tell zebedee hello')
+            ann.type_bytes(b'tell yo\t hello\n')
+            same('one who was listed at the login', server.line(), 'tell yolanda hello')
             ann.type_bytes(b'tell wal\tlace hello\n')
             same('a name that is not', server.line(), 'tell wallace hello')
             ann.type('quit')
