@@ -290,7 +290,7 @@ class Bot:
                 self.players.note(line.text)
                 if line.number == 2:
                     self.set_up(line.fields)
-            elif line.kind == fibs.TEXT:
+            elif line.kind == fibs.TEXT and self.is_in:
                 self.read(line.text.decode('latin-1').strip())
 
     def set_up(self, info):
