@@ -36,7 +36,7 @@ ROWS = [(kind, re.compile(form), more) for kind, form, *more in [
     ('wait', r'If the game goes on: %s' % SENDS),
     ('wait', r'If the game goes on: (roll|accept|%s)' % MOVE),
     ('wait', r'\S+ was sent: (board) asks what became of it\.'),
-    ('next', r'The game is over: (join) goes on, (send leave) ends the match\.'),
+    ('next', r'The game is over: (join) goes on, (leave) saves the match\.'),
     ('wait', r'\S+ has not joined yet\.'),
     ('gone', r'Your match may be saved: (invite \S+),'),
     ('gone', r'or (join \S+), if you are invited\.'),

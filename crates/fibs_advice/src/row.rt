@@ -144,7 +144,7 @@ impl Row {
             Row::Back => b"If it is your turn: ",
             Row::Thinks => b" has not answered yet.\n",
             Row::Waits => b" was sent: board asks what became of it.\n",
-            Row::Next => b"The game is over: join goes on, send leave ends the match.\n",
+            Row::Next => b"The game is over: join goes on, leave saves the match.\n",
             Row::Joined => b" has not joined yet.\n",
             Row::Saved => b"Your match may be saved: invite ",
             Row::Absent => b" is not here now: your match may be saved.\n",

@@ -7,6 +7,9 @@ use fibs_fields::decimal::append_number;
 use fibs_position::{Direction, GameBoard, Play, Position, Step};
 use std::alloc::AllocError;
 
+/// The place of the home that is farthest from off.
+const LAST_OF_HOME: u8 = 6;
+
 /// A rule that a move breaks.
 #[derive(Clone, Copy)]
 enum Broken {
@@ -18,6 +21,8 @@ enum Broken {
     Held(u8),
     /// Checkers are outside of the home.
     Outside,
+    /// A checker is farther back than one that goes off by a larger die.
+    Behind,
     /// No die plays the step.
     Distance(Step),
     /// More dice can be played.
@@ -42,10 +47,10 @@ fn checkers_on(position: &Position, steps: &[Step], place: u8) -> u8
     count
 }
 
-/// Whether a checker of the player is outside of his home.
-fn is_outside(position: &Position, steps: &[Step]) -> bool {
-    for place in 7..26 {
-        if checkers_on(position, steps, place) > 0 {
+/// Whether a checker of the player is farther back than a place.
+fn is_behind(position: &Position, steps: &[Step], place: u8) -> bool {
+    for behind in 1..26 {
+        if behind > place && checkers_on(position, steps, behind) > 0 {
             return true;
         }
     }
@@ -57,9 +62,14 @@ fn is_held(position: &Position, place: u8) -> bool {
     place >= 1 && place <= 24 && position.other(place) >= 2
 }
 
+/// How many places a step takes.
+fn distance_of(step: &Step) -> u8 {
+    step.source().saturating_sub(step.target())
+}
+
 /// Whether a die may play a step: the distance is that of a die, or a checker goes off by a larger one.
 fn is_played_by(die: u8, step: &Step) -> bool {
-    let distance = step.source().saturating_sub(step.target());
+    let distance = distance_of(step);
     distance == die || (step.target() == 0 && distance < die)
 }
 
@@ -77,10 +87,31 @@ fn broken_by(position: &Position, dice: (u8, u8), before: &[Step], step: &Step) 
     if is_held(position, step.target()) {
         return Some(Broken::Held(step.target()));
     }
-    if step.target() == 0 && is_outside(position, before) {
-        return Some(Broken::Outside);
+    if step.target() == 0 {
+        return broken_by_bearing_off(position, dice, before, step);
     }
     None
+}
+
+/// The rule that a step off breaks after others: it goes off from the home alone, and by a larger die if no checker is
+/// farther back.
+fn broken_by_bearing_off(
+    position: &Position,
+    dice: (u8, u8),
+    before: &[Step],
+    step: &Step,
+) -> Option<Broken> {
+    let distance = distance_of(step);
+    if is_behind(position, before, LAST_OF_HOME) {
+        Some(Broken::Outside)
+    } else if distance != dice.0
+        && distance != dice.1
+        && is_behind(position, before, step.source())
+    {
+        Some(Broken::Behind)
+    } else {
+        None
+    }
 }
 
 /// The rule that a move breaks, if one can be named.
@@ -165,6 +196,7 @@ fn append_broken(
         }
         Broken::Held(place) => append_of_place(b"Your opponent holds ", *place, direction, text),
         Broken::Outside => { text.extend_from_slice(b"No checker goes off before all are home.") }
+        Broken::Behind => text.extend_from_slice(b"A checker farther back goes first."),
         Broken::Distance(step) => append_distance(step, direction, text),
         Broken::MoreDice(most) => append_more_dice(*most, text),
         Broken::Larger => text.extend_from_slice(b"The larger die must be played."),

@@ -6,6 +6,7 @@ use arrayvec::ArrayVec;
 use fibs_boards::Board;
 use fibs_boards::fields::{MATCH_LENGTH, OTHER_SCORE, OWN_SCORE, UNLIMITED};
 use fibs_fields::split::split;
+use fibs_fields::trailing_spaces::without_spaces;
 use fibs_lines::LOGIN_PROMPT;
 use fibs_position::{GameBoard, Phase};
 
@@ -195,7 +196,7 @@ impl Situation {
 
     /// The user has sent a line as it is.
     pub fn hear_passed(&mut self, line: &[u8]) {
-        if is_answer(line) {
+        if is_answer(without_spaces(line)) {
             self.asks_board = false;
             self.standing = self.standing.after_answer();
         } else if decision_in(line).is_some() {
@@ -289,19 +290,41 @@ impl Situation {
         }
     }
 
+    /// Whether a text denies a match or an invitation of another player than of whom one is known.
+    fn denies_another(&self, report: &Report<'_>) -> bool {
+        match report.told {
+            Told::NoMatch => self.opponent.as_slice() != report.name,
+            Told::NotInvited => !report.name.is_empty() && self.inviter.as_slice() != report.name,
+            _ => false,
+        }
+    }
+
+    /// Whether the name that a text has is to be kept, after which the user waits for this.
+    fn keeps_name(&self, told: Told, after: Standing) -> bool {
+        match told {
+            Told::Begins | Told::Resumes => true,
+            Told::Invited => after == Standing::Invited,
+            _ => after != self.standing,
+        }
+    }
+
     /// Hears what a text says.
     fn hear_report(&mut self, report: &Report<'_>) {
+        if self.denies_another(report) {
+            return;
+        }
         self.left = self.left_after(report);
         self.note_turn(report.told);
         let after = self.standing.after(report.told);
-        if after != self.standing || matches!(report.told, Told::Begins | Told::Resumes) {
+        if self.keeps_name(report.told, after) {
             self.keep_name_of(report);
         }
         match report.told {
             Told::Begins | Told::Resumes => self.refuses_double = false,
             Told::NoDouble => self.refuses_double = true,
             Told::Plays => self.turn = None,
-            Told::MatchOver | Told::NoMatch if after != self.standing => self.opponent.clear(),
+            Told::MatchOver if after != self.standing => self.opponent.clear(),
+            Told::NoMatch if !self.standing.is_in_match() => self.opponent.clear(),
             _ => {}
         }
         self.standing = after;

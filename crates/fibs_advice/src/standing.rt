@@ -137,7 +137,7 @@ impl Standing {
     }
 
     /// Whether a match is on the table.
-    fn is_in_match(self) -> bool {
+    pub(crate) fn is_in_match(self) -> bool {
         !matches!(
             self,
             Standing::Free | Standing::Invited | Standing::Gone | Standing::Reopened
@@ -212,10 +212,10 @@ impl Standing {
         }
     }
 
-    /// The state after the server has said that there is no such match.
+    /// The state after the server has said that there is no such match: an invitation still is.
     fn after_no_match(self) -> Standing {
         match self {
-            Standing::Invited | Standing::Gone | Standing::Reopened => Standing::Free,
+            Standing::Gone | Standing::Reopened => Standing::Free,
             _ => self,
         }
     }

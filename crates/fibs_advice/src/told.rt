@@ -94,7 +94,7 @@ const OF_A_PLAYER: [Shape; 14] = [
 ];
 
 /// Shapes of texts in which the name of a player comes next, after how they begin.
-const NAMING: [Shape; 8] = [
+const NAMING: [Shape; 10] = [
     (b"** Please wait for ", b" to join", b"", Told::Joined),
     (b"Please wait for ", b" to join", b"", Told::Joined),
     (b"** Player ", b" has left the game", b"", Told::Saved),
@@ -113,10 +113,15 @@ const NAMING: [Shape; 8] = [
     ),
     (b"Starting a new game with ", b"", b".", Told::Begins),
     (b"Type 'join ", b"", b"' to accept.", Told::Invited),
+    (b"** There's no saved match with ", b"", b"", Told::NoMatch),
+    (b"** ", b" didn't invite you.", b"", Told::NotInvited),
 ];
 
+/// Shapes of texts in which the name of a player comes after ` with `.
+const WITH_A_PLAYER: [Shape; 1] = [(b"** You are now playing ", b" with ", b"", Told::Begins)];
+
 /// Shapes of the other texts. Refusals that say where the match is come before those that refuse a decision.
-const OTHERS: [Shape; 40] = [
+const OTHERS: [Shape; 38] = [
     (
         b"** You're not playing. Type 'join'",
         b"",
@@ -156,11 +161,8 @@ const OTHERS: [Shape; 40] = [
         b"",
         Told::MustAnswer,
     ),
-    (b"** You are now playing ", b" with ", b"", Told::Begins),
     (b"** You terminated the game", b"", b"", Told::Saved),
-    (b"** There's no saved match with ", b"", b"", Told::NoMatch),
     (b"** Nobody ", b"invited you.", b"", Told::NotInvited),
-    (b"** ", b" didn't invite you.", b"", Told::NotInvited),
     (b"** You can't double", b"", b"", Told::NoDouble),
     (b"** The Crawford rule", b"", b"", Told::NoDouble),
     (b"** You can't move", b"", b"", Told::Refused),
@@ -196,6 +198,7 @@ const OTHERS: [Shape; 40] = [
     ),
     (b"It's your turn to move", b"", b"", Told::ToMove),
     (b"It's your turn to ", b"", b"", Told::ToRoll),
+    (b"It's your turn. Please roll", b"", b"", Told::ToRoll),
     (b"Please move ", b" piece", b"", Told::ToMove),
 ];
 
@@ -207,6 +210,11 @@ fn of_a_player() -> &'static [Shape] {
 /// The shapes of texts that name a player after how they begin.
 fn naming() -> &'static [Shape] {
     &NAMING
+}
+
+/// The shapes of texts in which the name of a player comes after ` with `.
+fn with_a_player() -> &'static [Shape] {
+    &WITH_A_PLAYER
 }
 
 /// The shapes of the other texts.
@@ -261,6 +269,25 @@ fn name_or_none(bytes: &[u8]) -> &[u8] {
     }
 }
 
+/// The word after `with` in a text; empty if there is none.
+fn word_after_with(text: &[u8]) -> &[u8] {
+    let mut is_next = false;
+    for word in text.split(|byte| *byte == b' ') {
+        if is_next {
+            return word;
+        }
+        is_next = word == b"with".as_slice();
+    }
+    b""
+}
+
+/// What a text says that names a player after ` with `.
+fn read_with_a_player(text: &[u8]) -> Option<Report<'_>> {
+    let (told, rest) = first_of(with_a_player(), text)?;
+    let name = name_or_none(first_word(word_after_with(rest)));
+    Some(Report { told, name })
+}
+
 /// What a text says that begins with the name of a player.
 fn read_of_a_player(text: &[u8]) -> Option<Report<'_>> {
     let (name, rest) = split(text, b' ');
@@ -274,6 +301,9 @@ pub fn read_told(text: &[u8]) -> Option<Report<'_>> {
     let text = without_spaces(text);
     if let Some((told, _)) = first_of(others(), text) {
         return Some(Report { told, name: b"" });
+    }
+    if let Some(report) = read_with_a_player(text) {
+        return Some(report);
     }
     if let Some((told, rest)) = first_of(naming(), text) {
         let name = name_or_none(first_word(rest));

@@ -123,6 +123,15 @@ fn append_plain(
     append_meaning(alloc, client, small.as_slice(), text)
 }
 
+/// Appends a line without the spaces at its ends, and its first word in small letters.
+///
+/// Errors: if memory runs out.
+pub fn append_small_word(alloc: Global, line: &[u8], text: &mut Vec<u8>) -> Result<(), AllocError> {
+    let (word, rest) = split(without_spaces(from_first_word(line)), b' ');
+    let small = word.to_ascii_lowercase(alloc)?;
+    append_word(small.as_slice(), rest, text)
+}
+
 /// Appends the spelling of a line that the client does not know. What is sent to people stays as it is, but for the
 /// spaces before it and the case of its first word.
 ///

@@ -306,7 +306,7 @@ static ENDS: [Scene; 9] = [
             Step::Hears(b"Type 'join' if you want to play the next game, type 'leave' if you don't.\r\n"),
             Step::Rests,
         ],
-        "if you don't.\nThe game is over: join goes on, send leave ends the match.\n",
+        "if you don't.\nThe game is over: join goes on, leave saves the match.\n",
     ),
     (
         &[
@@ -340,7 +340,7 @@ static ENDS: [Scene; 9] = [
     (&[Step::Hears(WON), Step::Rests], "You win the game by a backgammon, and 3 points. You 3, bob 1 of 3.\n"),
     (
         &[Step::Loses, Step::Opens, Step::Hears(WELCOME), Step::Hears(SETTINGS), Step::Hears(OVER), Step::Rests],
-        "The game is over: join goes on, send leave ends the match.\n",
+        "The game is over: join goes on, leave saves the match.\n",
     ),
     (
         &[

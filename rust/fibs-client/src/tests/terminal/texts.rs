@@ -6,7 +6,7 @@ use crate::fibs_advice::told::{Told, read_told};
 type Row = (&'static str, Option<Told>, &'static str);
 
 /// Texts as servers print them, and texts that look like them.
-static TEXTS: [Row; 60] = [
+static TEXTS: [Row; 61] = [
     ("bob rejects. The game continues.", Some(Told::Declined), "bob"),
     ("bob accepts the double. The cube shows 2.", Some(Told::Taken), "bob"),
     ("bob accepts and wins 2 points.", Some(Told::GameOver), "bob"),
@@ -29,7 +29,7 @@ static TEXTS: [Row; 60] = [
     ("You are now playing with bob. Your running match was loaded.", Some(Told::Resumes), "bob"),
     ("Starting a new game with bob.", Some(Told::Begins), "bob"),
     ("Type 'join bob' to accept.", Some(Told::Invited), "bob"),
-    ("** You are now playing a 3 point match with bob.", Some(Told::Begins), ""),
+    ("** You are now playing a 3 point match with bob.", Some(Told::Begins), "bob"),
     ("** You terminated the game. The game was saved.", Some(Told::Saved), ""),
     ("** You're not playing. Type 'join' to play the next game.", Some(Told::NextGame), ""),
     ("** You're not playing.", Some(Told::NotPlaying), ""),
@@ -39,8 +39,8 @@ static TEXTS: [Row; 60] = [
     ("** You have to wait for bob to accept or reject.", Some(Told::Offered), ""),
     ("** You have to accept or reject bob's offer.", Some(Told::MustAnswer), ""),
     ("** Please type 'accept' or 'reject'.", Some(Told::MustAnswer), ""),
-    ("** There's no saved match with bob. Please give a match length.", Some(Told::NoMatch), ""),
-    ("** bob didn't invite you.", Some(Told::NotInvited), ""),
+    ("** There's no saved match with bob. Please give a match length.", Some(Told::NoMatch), "bob"),
+    ("** bob didn't invite you.", Some(Told::NotInvited), "bob"),
     ("** Nobody has invited you.", Some(Told::NotInvited), ""),
     ("** You can't double.", Some(Told::NoDouble), ""),
     ("** The Crawford rule doesn't allow you to double in this game.", Some(Told::NoDouble), ""),
@@ -59,6 +59,7 @@ static TEXTS: [Row; 60] = [
     ("You win the 3 point match 3-1 .", Some(Told::MatchOver), ""),
     ("Type 'join' if you want to play the next game, type 'leave' if you don't.", Some(Told::NextGame), ""),
     ("It's your turn to roll or double.  ", Some(Told::ToRoll), ""),
+    ("It's your turn. Please roll or double", Some(Told::ToRoll), ""),
     ("Please move 2 pieces.", Some(Told::ToMove), ""),
     ("bob wants to resign. eve will win 1 point.", None, ""),
     ("You roll 3 and 1.", None, ""),
