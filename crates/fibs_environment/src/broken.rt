@@ -2,9 +2,23 @@
 ghost use Rattle.std.specs.Prelude.{◌≡◌, map};
 ghost use Rattle.fibs_environment.specs.Broken.{spaced};
 
+use bstr::decode_utf8;
+use unicode_width::UnicodeWidthChar;
+
 /// Whether a byte is one of a character of UTF-8 after its first: it takes no column of its own.
 fn continues(byte: u8) -> bool {
     byte >= 128 && byte < 192
+}
+
+/// How many columns the character takes that begins at a place.
+fn columns_at(text: &[u8], place: usize) -> usize {
+    if place >= text.len() || text[place] < 128 {
+        return 1;
+    }
+    match decode_utf8(&text[place..]).0 {
+        Some(c) => c.width().unwrap_or(1),
+        None => 1,
+    }
 }
 
 /// Puts a line end in place of a space; nothing for any other byte.
@@ -35,8 +49,9 @@ pub fn break_at_spaces(start: usize, columns: usize, text: &mut Vec<u8>)
             since_space = 0;
             space = text.len();
         } else if !continues(byte) {
-            column = column.saturating_add(1);
-            since_space = since_space.saturating_add(1);
+            let taken = columns_at(text.as_slice(), place);
+            column = column.saturating_add(taken);
+            since_space = since_space.saturating_add(taken);
         }
         if byte != b' ' && column > columns && space < text.len() {
             end_row(text, space);
@@ -48,4 +63,16 @@ pub fn break_at_spaces(start: usize, columns: usize, text: &mut Vec<u8>)
             since_space = 0;
         }
     }
+}
+
+/// The first bytes of a text, at most so many, and without a part of a letter at their end.
+pub fn front_of(text: &[u8], most: usize) -> &[u8] {
+    let mut len = text.len().min(most);
+    // a character has at most three bytes after its first
+    for _ in 0..3 {
+        if len < text.len() && continues(text[len]) {
+            len = len.saturating_sub(1);
+        }
+    }
+    &text[..len.min(text.len())]
 }

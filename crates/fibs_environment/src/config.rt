@@ -80,10 +80,20 @@ pub fn read_setting(line: &[u8]) -> Option<Setting<'_>> {
             let (own, other) = split(letters, b' ');
             Some(Setting::Letters(letters_in(own, other?)?))
         }
-        (b"server" | b"log", Some(_)) => Some(Setting::Nothing),
+        (b"server", Some(place)) if is_place(place) => Some(Setting::Nothing),
+        (b"log", Some(_)) => Some(Setting::Nothing),
         _ if line.starts_with(b"#") => Some(Setting::Nothing),
         _ => None,
     }
+}
+
+/// Whether a line says where to connect, and as whom: a host, a port, and a name.
+fn is_place(words: &[u8]) -> bool {
+    words
+        .split(|byte| *byte == b' ')
+        .filter(|word| !word.is_empty())
+        .count()
+        == 3
 }
 
 /// The path and the bytes of the file: none, if there is no file.

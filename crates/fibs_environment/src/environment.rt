@@ -2,6 +2,7 @@
 
 use crate::settings::Settings;
 use crate::zone::Zone;
+use fibs_fields::split::split;
 use std::env;
 
 /// The columns of a terminal if the environment does not say them.
@@ -34,6 +35,15 @@ fn number(rt: &HostRuntime, name: &str, else_this: usize) -> usize {
     }
 }
 
+/// The coding that a locale names, as `de_DE.UTF-8@euro` does: what comes between the full stop and the `@`.
+fn coding_of(locale: &[u8]) -> &[u8] {
+    let named = match split(locale, b'.').1 {
+        Some(named) => named,
+        None => locale,
+    };
+    split(named, b'@').0
+}
+
 /// Whether a variable names a locale of UTF-8; None if it names no locale.
 fn names_utf8(rt: &HostRuntime, name: &str) -> Option<bool> {
     match env::var(rt, name) {
@@ -41,8 +51,8 @@ fn names_utf8(rt: &HostRuntime, name: &str) -> Option<bool> {
             if value.is_empty() {
                 return None;
             }
-            let name = value.as_str();
-            Some(name.ends_with("UTF-8") || name.ends_with("utf8"))
+            let coding = coding_of(value.as_str().as_bytes());
+            Some(coding.eq_ignore_ascii_case(b"UTF-8") || coding.eq_ignore_ascii_case(b"utf8"))
         }
         Err(_) => None,
     }

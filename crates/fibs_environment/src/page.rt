@@ -50,6 +50,14 @@ impl<'a> Page<'a> {
         self.say(b"\n")
     }
 
+    /// Says rows of the screen's own words. Each goes on in another row if it is wider than the terminal.
+    pub fn say_rows(&mut self, words: &[u8]) -> Result<(), AllocError> {
+        let start = self.text.len();
+        self.say(words)?;
+        break_at_spaces(start, self.columns(), &mut self.text);
+        Ok(())
+    }
+
     /// Whether a row of the screen's own words has room for so many bytes.
     pub fn has_room(&self, bytes: usize) -> bool {
         bytes <= self.settings.columns.min(WIDEST)

@@ -1,0 +1,36 @@
+//! Rows that are broken or cut: by the columns that their letters take, and between letters.
+
+use crate::fibs_environment::broken::{break_at_spaces, front_of};
+
+/// Texts, the columns that they may take, and the rows that are made of them.
+static BROKEN: [(&str, usize, &str); 4] = [
+    ("one two three", 8, "one two\nthree"),
+    ("\u{e9}\u{e9}\u{e9} two three", 8, "\u{e9}\u{e9}\u{e9} two\nthree"),
+    ("\u{65e5}\u{672c} \u{8a9e}", 6, "\u{65e5}\u{672c}\n\u{8a9e}"),
+    ("\u{65e5}\u{672c} \u{8a9e}", 7, "\u{65e5}\u{672c} \u{8a9e}"),
+];
+
+#[test]
+fn a_row_is_broken_by_the_columns_of_its_letters() {
+    for (text, columns, rows) in &BROKEN {
+        let mut broken = text.as_bytes().to_vec();
+        break_at_spaces(0, *columns, &mut broken);
+        assert_eq!(broken.as_slice(), rows.as_bytes(), "{text} in {columns} columns");
+    }
+}
+
+/// Texts, how many bytes of them are wanted at most, and what is cut off.
+static CUT: [(&str, usize, &str); 5] = [
+    ("caf\u{e9}", 5, "caf\u{e9}"),
+    ("caf\u{e9}", 4, "caf"),
+    ("caf\u{e9}", 3, "caf"),
+    ("\u{1f3b2}", 3, ""),
+    ("six", 9, "six"),
+];
+
+#[test]
+fn no_letter_is_cut() {
+    for (text, most, front) in &CUT {
+        assert_eq!(front_of(text.as_bytes(), *most), front.as_bytes(), "{most} bytes of {text}");
+    }
+}
