@@ -9,8 +9,8 @@ use crate::worded::append_words;
 use fibs_environment::Settings;
 use fibs_environment::pieces::{append_all, short_name};
 use fibs_picture::{
-    BOARD_COLUMNS, DEED_ROW, DICE_ROW, FREE_CUBE, MOST_SEEN, OPPONENTS_CUBE, OPPONENTS_TURN,
-    OWN_LETTER, PICTURE_COLUMNS, draw, draw_board, height_at, place_at,
+    BOARD_COLUMNS, DEED_ROW, DICE_ROW, FREE_CUBE, MOST_SEEN, NO_DOUBLING, OPPONENTS_CUBE,
+    OPPONENTS_TURN, OWN_LETTER, PICTURE_COLUMNS, draw, draw_board, height_at, place_at,
 };
 use fibs_position::{GameBoard, Phase, Position};
 use std::alloc::{AllocError, Global};
@@ -106,8 +106,9 @@ pub(crate) fn append_row(
     text.extend_from_slice(b"\n")
 }
 
-/// A row in fewer columns, in pieces: the opponent has his name, and a cube few words.
-fn short_row<'a>(row: &'a [u8], opponent: &'a [u8]) -> [&'a [u8]; 4] {
+/// A row in fewer columns, in pieces: the opponent has his name, and a cube few words; of one that nobody may double it
+/// has them if it is wide.
+fn short_row<'a>(row: &'a [u8], opponent: &'a [u8], is_wide: bool) -> [&'a [u8]; 4] {
     if let Some(before) = row.strip_suffix(OPPONENTS_TURN) {
         [before, opponent, b"'s turn", b""]
     } else if let Some(before) = row.strip_suffix(OPPONENTS_CUBE) {
@@ -115,7 +116,10 @@ fn short_row<'a>(row: &'a [u8], opponent: &'a [u8]) -> [&'a [u8]; 4] {
     } else if let Some(before) = row.strip_suffix(FREE_CUBE) {
         [before, b", free", b"", b""]
     } else {
-        [row, b"", b"", b""]
+        match row.strip_suffix(NO_DOUBLING) {
+            Some(before) if is_wide => [before, b", dead", b"", b""],
+            _ => [row, b"", b"", b""],
+        }
     }
 }
 
@@ -124,12 +128,15 @@ pub(crate) fn short_rows(
     alloc: Global,
     picture: &[u8],
     opponent: &[u8],
+    settings: &Settings<'_>,
 ) -> Result<Vec<Vec<u8>>, AllocError> {
     let mut rows = Vec::new(alloc);
+    let has_words_beside = !is_narrow(settings);
     for bytes in picture.split(|byte| *byte == b'\n') {
         if !bytes.is_empty() {
             let mut short = Vec::new(alloc);
-            append_all(&short_row(bytes, opponent), &mut short)?;
+            let is_wide = has_words_beside && bytes.len() > settings.columns;
+            append_all(&short_row(bytes, opponent, is_wide), &mut short)?;
             rows.push(short)?;
         }
     }
@@ -151,7 +158,8 @@ fn append_rows(
     settings: &Settings<'_>,
     text: &mut Vec<u8>,
 ) -> Result<(), AllocError> {
-    let rows = short_rows(alloc, picture, short_name(game.board().opponent().bytes()))?;
+    let opponent = short_name(game.board().opponent().bytes());
+    let rows = short_rows(alloc, picture, opponent, settings)?;
     for place in 0..DEED_ROW {
         let row = row_at(place, settings);
         if let Some(bytes) = rows.get(row) {

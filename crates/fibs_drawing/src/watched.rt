@@ -100,7 +100,7 @@ fn append_marked_watched(
     let mut picture = Vec::new(alloc);
     draw_watched(watched, &mut picture).map_err(|_| AllocError)?;
     let opponent = short_name(watched.board().opponent().bytes());
-    let short = short_rows(alloc, picture.as_slice(), opponent)?;
+    let short = short_rows(alloc, picture.as_slice(), opponent, settings)?;
     let rows = lettered_rows(alloc, short.as_slice(), settings)?;
     for place in 0..DEED_ROW {
         let row = row_at(place, settings);

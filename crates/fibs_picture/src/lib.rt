@@ -19,4 +19,4 @@ pub use picture::{draw, draw_board, draw_watched};
 pub use places::{
     BOARD_COLUMNS, CUBE_ROW, DEED_ROW, DICE_ROW, PICTURE_COLUMNS, TURN_ROW, height_at, place_at,
 };
-pub use words::{FREE_CUBE, OPPONENTS_CUBE, OPPONENTS_TURN, doublers, shown_name};
+pub use words::{FREE_CUBE, NO_DOUBLING, OPPONENTS_CUBE, OPPONENTS_TURN, doublers, shown_name};

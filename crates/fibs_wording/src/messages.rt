@@ -43,8 +43,11 @@ fn append_settings(info: &OwnInfo<'_>, text: &mut Vec<u8>) -> Result<(), AllocEr
     ];
     text.extend_from_slice(b"On:")?;
     append_on(&settings[..FIRST_SETTINGS], text)?;
-    text.extend_from_slice(b"\n   ")?;
-    append_on(&settings[FIRST_SETTINGS..], text)
+    let others = &settings[FIRST_SETTINGS..];
+    if others.iter().any(|(on, _)| *on) {
+        text.extend_from_slice(b"\n   ")?;
+    }
+    append_on(others, text)
 }
 
 /// Appends who the user is, and what he has reached.

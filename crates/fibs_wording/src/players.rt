@@ -61,10 +61,10 @@ fn keywords() -> &'static [(&'static [u8], Choice)] {
     &KEYWORDS
 }
 
-/// What a word says that is one of them.
+/// What a word says that is one of them, in whatever letters.
 fn choice_of(word: &[u8]) -> Option<Choice> {
     for (name, choice) in keywords() {
-        if *name == word {
+        if name.eq_ignore_ascii_case(word) {
             return Some(*choice);
         }
     }

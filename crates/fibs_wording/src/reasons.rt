@@ -13,9 +13,9 @@ pub fn refusal_words(why: Refusal) -> &'static [u8] {
     match why {
         Refusal::AlreadyOpen => b"You are connected already.",
         Refusal::Offline => b"There is no connection: type open.",
-        Refusal::NotReady => b"Not logged in: wrong name or password? quit, and begin again.",
+        Refusal::NotReady => b"The server has not greeted you yet.",
         Refusal::ServerPlays => b"You don't play yourself: automove or greedy is on.",
-        Refusal::NoBoard => b"No board on which you play was shown yet: type board.",
+        Refusal::NoBoard => b"No board on which you play was shown.",
         Refusal::Waiting => b"You have decided, and no new board has come yet.",
         Refusal::NotYours => b"There is nothing for you to decide on this board.",
         Refusal::WrongKind => b"That can't be done on this board: help says what can.",
