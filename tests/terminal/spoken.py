@@ -185,7 +185,7 @@ def words_at_any_time():
     try:
         ann = table.ann
         ann.type('words')
-        ann.reads('No board on which you play was shown yet: type board.')
+        ann.reads('No board on which you play was shown.')
         table.begins()
         ann.hint()
         ann.type('Words')

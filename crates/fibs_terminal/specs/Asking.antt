@@ -1,21 +1,22 @@
 -- What a typed line asks for (the project's own).
-use Rattle.std.specs.Prelude.{◌≡◌, true, false, ℕ, nat_lt, length, List, [], None, Result, OnOk, IfOk}
+use Rattle.std.specs.Prelude.{◌≡◌, true, false, ℕ, nat_lt, length, List, [], None, Result, IfOk}
 use Rattle.fibs_session.specs.History.Machine.{Talk}
 use Rattle.fibs_session.specs.Calls.Standing.{ClientValue, StandsAfter}
 use Rattle.fibs_typed.specs.Typing.{typed_now, is_command, would_take}
 use Rattle.fibs_front.specs.Wishes.{WishValue, takes_turn, is_too_long, typed_limit}
 use Rattle.fibs_front.specs.declared.wish.Wish.{Wish}
-use Rattle.fibs_front.specs.declared.wish.Wish.TheVariants.{Send}
+use Rattle.fibs_front.specs.declared.wish.Wish.TheVariants.{Say, Send}
 
 -- an empty line asks to hear the server; a line that is too long is reported as such
 abbrev pub AsksInBounds : List ℕ → WishValue → Type 0
 AsksInBounds line wish = (line ≡ [] → wish ≡ takes_turn None)
     × (nat_lt typed_limit (length line) ≡ true → wish ≡ is_too_long)
 
--- what the client knows is never respelled: a decision, a line to people, an order
-abbrev pub KnownStays : {E : Type 0} → ClientValue → List ℕ → List ℕ → Result Wish E → Type 0
-KnownStays client before after result = OnOk result ((t : Talk) → StandsAfter client t
-    → is_command (typed_now t before) ≡ true → after ≡ before)
+-- what the client knows is never respelled, and the client answers it: a decision, a line to people, an order
+abbrev pub KnownGoesOn : {E : Type 0} → ClientValue → List ℕ → List ℕ → Result Wish E → Type 0
+KnownGoesOn client before after result = IfOk result (λ wish. (t : Talk) → StandsAfter client t
+    → is_command (typed_now t before) ≡ true
+    → (after ≡ before) × (nat_lt 0 (length before) ≡ true → nat_lt typed_limit (length before) ≡ false → wish ≡ Say))
 
 -- a line goes as it is only if the client would not take it
 abbrev pub SendsUntaken : {E : Type 0} → ClientValue → List ℕ → Result Wish E → Type 0

@@ -1,7 +1,7 @@
 //! What a line that is typed at a terminal asks for.
 ghost use Rattle.std.specs.Prelude.{◌≡◌, ◌≤◌, length, codes, true, Some, IfOk, OnOk};
 ghost use Rattle.fibs_front.specs.Wishes.{wish_value};
-ghost use Rattle.fibs_terminal.specs.Asking.{AsksInBounds, KnownStays, SendsUntaken};
+ghost use Rattle.fibs_terminal.specs.Asking.{AsksInBounds, KnownGoesOn, SendsUntaken};
 ghost use Rattle.fibs_terminal.specs.Trying.{GoesOn, Tries, TriesOrKeeps};
 ghost use Rattle.fibs_terminal.specs.declared.commands.Own.TheVariants.{Go};
 
@@ -10,13 +10,14 @@ use crate::screen::Screen;
 use crate::telling::UNKNOWN;
 use bstr::ByteSlice;
 use fibs_advice::rules::append_rule;
-use fibs_advice::spelling::words::append_spelled;
+use fibs_advice::spelling::words::{append_small_word, append_spelled};
 use fibs_drawing::{Watching, append_watched_words, append_words};
 use fibs_environment::Page;
 use fibs_environment::pieces::append_all;
 use fibs_environment::shown::append_shown;
 use fibs_fields::decimal::read_decimal;
 use fibs_fields::split::split;
+use fibs_fields::trailing_spaces::without_spaces;
 use fibs_front::typed_line::{TYPED_LIMIT, TypedLine};
 use fibs_front::wish::Wish;
 use fibs_position::Decision;
@@ -134,6 +135,22 @@ fn spell(alloc: Global, client: &Client, line: &mut TypedLine) -> Result<(), All
     append_spelled(alloc, client, line.as_slice(), &mut spelled)?;
     if is_command(client, spelled.as_slice()) || is_own(spelled.as_slice()) {
         set_line(line, spelled.as_slice());
+        return Ok(());
+    }
+    spell_passed(alloc, line, spelled.as_slice())
+}
+
+/// Respells a line if it then goes to the server as it is: with its first word in small letters, or spelled so.
+fn spell_passed(alloc: Global, line: &mut TypedLine, spelled: &[u8]) -> Result<(), AllocError> {
+    if is_passed(line.as_slice()) {
+        return Ok(());
+    }
+    let mut small = Vec::new(alloc);
+    append_small_word(alloc, line.as_slice(), &mut small)?;
+    if is_passed(small.as_slice()) {
+        set_line(line, small.as_slice());
+    } else if is_passed(spelled) {
+        set_line(line, spelled);
     }
     Ok(())
 }
@@ -270,9 +287,13 @@ fn set_columns(rest: &[u8], page: &mut Page<'_>) -> Result<(), AllocError> {
     Ok(())
 }
 
-/// Says that there is no board for which a word asks.
-pub(crate) fn say_no_game(page: &mut Page<'_>) -> Result<(), AllocError> {
-    page.say_all(&[refusal_words(Refusal::NoBoard), b"\n"])
+/// Says that there is no board of the user's own game for which a word asks.
+pub(crate) fn say_no_game(client: &Client, page: &mut Page<'_>) -> Result<(), AllocError> {
+    let why = match client.refusal(&Decision::Roll) {
+        Some(Refusal::Offline) => Refusal::Offline,
+        _ => Refusal::NoBoard,
+    };
+    page.say_all(&[refusal_words(why), b"\n"])
 }
 
 /// Tells in words the board that is shown: of the game that is watched, else of the user's own.
@@ -282,7 +303,7 @@ fn say_words(client: &Client, watching: &Watching, page: &mut Page<'_>) -> Resul
     match (watching.board(), client.game()) {
         (Some(watched), _) => append_watched_words(alloc, watched, columns, &mut page.text),
         (None, Some(game)) => append_words(alloc, game, columns, &mut page.text),
-        (None, None) => say_no_game(page),
+        (None, None) => say_no_game(client, page),
     }
 }
 
@@ -295,7 +316,7 @@ impl<'a> Screen<'a> {
         line: &mut TypedLine,
     ) -> Result<Wish, AllocError>
         ensures asks { IfOk result (λ wish. AsksInBounds line.old.items (wish_value wish line.new.items)) }
-        ensures known { KnownStays client.now line.old.items line.new.items result }
+        ensures known { KnownGoesOn client.now line.old.items line.new.items result }
         ensures sent { SendsUntaken client.now line.new.items result }
         ensures tried { OnOk result (TriesOrKeeps client.now self.old.page.settings self.old.memory.looking.trial
             self.new.memory.looking.trial self.old.page.text.items self.new.page.text.items) }
@@ -369,7 +390,7 @@ impl<'a> Screen<'a> {
         }
     }
 
-    /// Answers a word, with what follows it.
+    /// Answers a word, with what follows it: the words of the terminal may be in capitals, and a name is as it is.
     fn answer_here(
         &mut self,
         client: &Client,
@@ -380,16 +401,19 @@ impl<'a> Screen<'a> {
         ensures { self.new.memory.looking.trial ≡ self.old.memory.looking.trial }
     {
         let alloc = self.page.alloc;
+        let rest = without_spaces(rest);
+        let small = rest.to_ascii_lowercase(alloc)?;
+        let small = small.as_slice();
         match here {
-            Here::Help => self.say_help(rest),
-            Here::Plays => self.memory.looking.say_plays(client, rest, &mut self.page),
+            Here::Help => self.say_help(small),
+            Here::Plays => self.memory.looking.say_plays(client, small, &mut self.page),
             Here::Words => say_words(client, &self.memory.watching, &mut self.page),
             Here::Players => {
                 let asker = self.memory.company.asker();
                 append_players(alloc, directory, rest, &asker, &mut self.page.text)
             }
-            Here::Moves => say_moves(&self.memory.story, rest, &mut self.page),
-            Here::Columns => set_columns(rest, &mut self.page),
+            Here::Moves => say_moves(&self.memory.story, small, &mut self.page),
+            Here::Columns => set_columns(small, &mut self.page),
             Here::Talk => self.memory.talk.say_rows(&mut self.page),
             Here::Gag => self.memory.people.gag(rest, &mut self.page),
             Here::Ungag => self.memory.people.ungag(rest, &mut self.page),
@@ -424,11 +448,11 @@ impl<'a> Screen<'a> {
     {
         if word.is_empty() {
             self.memory.advising.inquired = true;
-            self.page.say(help::screen())?;
+            self.page.say_rows(help::screen())?;
             return self.memory.watching.say_hint(&mut self.page);
         }
-        match help::word_help(word) {
-            Some(words) => self.page.say(words),
+        match help::word_help(split(word, b' ').0) {
+            Some(words) => self.page.say_rows(words),
             None => self.page.say(b"No such word: help lists the words.\n"),
         }
     }

@@ -3,6 +3,7 @@
 use crate::screen::Screen;
 use crate::terminal::Terminal;
 use fibs_engine::writing::write_bytes;
+use fibs_environment::broken::front_of;
 use fibs_environment::pieces::append_all;
 use fibs_environment::{Config, Setting, read_setting};
 use fibs_front::fault::FrontFault;
@@ -45,7 +46,7 @@ impl<'a> Screen<'a> {
         let alloc = self.page.alloc;
         let mut room = Buffer::new();
         let digits = room.format(number).as_bytes();
-        let shown = &line[..line.len().min(MOST_SHOWN)];
+        let shown = front_of(line, MOST_SHOWN);
         let mut row = Vec::new(alloc);
         append_all(
             &[

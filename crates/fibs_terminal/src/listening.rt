@@ -1,5 +1,6 @@
 //! What a terminal shows of what the server sends.
 
+use crate::people::Asked;
 use crate::screen::{Moment, Screen};
 use crate::talk::Talk;
 use fibs_advice::row::Row;
@@ -30,6 +31,7 @@ fn is_said_already(said: &[u8], phase: Option<Phase>) -> bool {
     said.is_empty()
         || said.starts_with(b"Please move ")
         || said.starts_with(b"It's your turn to ")
+        || said.starts_with(b"It's your turn. Please ")
         || (said == CANT_MOVE && phase == Some(Phase::Passing))
 }
 
@@ -186,7 +188,7 @@ impl<'a> Screen<'a> {
         match message {
             Message::Welcome { .. } => {
                 self.memory.situation.hear_welcome();
-                self.memory.list.is_due = true;
+                self.memory.list.asked = Asked::Everybody;
             }
             Message::Login { name, .. } => self.memory.situation.hear_login(name.bytes()),
             Message::MotdBegin => self.memory.situation.hear_motd(true),

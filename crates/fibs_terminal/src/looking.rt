@@ -83,7 +83,7 @@ impl Looking {
         ensures { self.new.trial ≡ self.old.trial }
     {
         let Some(game) = client.game() else {
-            return say_no_game(page);
+            return say_no_game(client, page);
         };
         let listing = match rest {
             b"" => Some(Listing::of_all()),

@@ -1,8 +1,9 @@
 //! Whose words are hidden, and who was listed.
 
 use fibs_environment::Page;
-use fibs_environment::shown::append_shown;
+use fibs_environment::pieces::short_name;
 use fibs_fields::name::Name;
+use fibs_fields::split::split;
 use fibs_messages::{Message, WhoInfo};
 use fibs_wording::lists::append_count;
 use fibs_wording::messages::append_player;
@@ -79,18 +80,23 @@ impl People {
         if !self.hide(alloc, name)? {
             return page.say(b"gag NAME: whose words are kept from the screen.\n");
         }
-        page.say_all(&[name, b" is gagged on this screen: ungag ends it.\n"])
+        page.say_all(&[
+            short_name(name),
+            b" is gagged on this screen: ungag NAME ends it.\n",
+        ])
     }
 
     /// Shows again what a player says.
     pub fn ungag(&mut self, name: &[u8], page: &mut Page<'_>) -> Result<(), AllocError> {
+        if name.is_empty() {
+            return page.say(b"ungag NAME: whose words are shown again.\n");
+        }
         let before = self.gagged.len();
         self.gagged.retain(|gagged| gagged.as_slice() != name);
         if self.gagged.len() == before {
             return page.say(b"Nobody of that name is gagged.\n");
         }
-        append_shown(name, page.settings.utf8, &mut page.text)?;
-        page.say(b" is heard again.\n")
+        page.say_all(&[short_name(name), b" is heard again.\n"])
     }
 
     /// Hides shouts, and who comes and goes, or shows them again.
@@ -109,11 +115,22 @@ impl People {
     }
 }
 
+/// What list of players was asked for that has not come.
+#[derive(Clone, Copy, Debug, PartialEq, Eq)]
+pub enum Asked {
+    /// None.
+    Nothing,
+    /// That of all players: of a login, or of `who`.
+    Everybody,
+    /// That of some players, as of `who ready` or `who bob`.
+    Some,
+}
+
 /// A list of players that is coming.
 #[derive(Drop)]
 pub struct List {
-    /// Whether the next list is one that was asked for: that of a login, or of `who`.
-    pub is_due: bool,
+    /// What was asked for.
+    pub asked: Asked,
     /// How many players were listed since the last list ended.
     count: usize,
     /// The row of the last of them.
@@ -124,7 +141,7 @@ impl List {
     /// Nobody was listed.
     pub fn new(alloc: Global) -> List {
         List {
-            is_due: false,
+            asked: Asked::Nothing,
             count: 0,
             last: Vec::new(alloc),
         }
@@ -132,8 +149,15 @@ impl List {
 
     /// Nobody was listed on this connection.
     pub fn forget(&mut self) {
-        self.is_due = false;
+        self.asked = Asked::Nothing;
         self.count = 0;
+    }
+
+    /// The user has sent a line as it is.
+    pub fn hear_passed(&mut self, line: &[u8]) {
+        if split(line, b' ').0 == b"who".as_slice() {
+            self.asked = Asked::Some;
+        }
     }
 
     /// A player was listed.
@@ -144,14 +168,17 @@ impl List {
     }
 
     /// A list has ended: one row for a list that was asked for, and one for a player who has changed, unless the screen
-    /// is quiet. What else has changed is in the list already.
+    /// is quiet. What else has changed is in the list already. A player may have changed before all are listed.
     pub fn hear_end(&mut self, is_quiet: bool, page: &mut Page<'_>) -> Result<(), AllocError> {
-        let (count, is_due) = (self.count, self.is_due);
-        self.forget();
-        if count > 1 && is_due {
+        let (count, asked) = (self.count, self.asked);
+        self.count = 0;
+        if asked != Asked::Everybody || count > 1 {
+            self.asked = Asked::Nothing;
+        }
+        if count > 1 && asked != Asked::Nothing {
             append_count(count, &mut page.text)?;
             page.say(b": type players\n")
-        } else if count == 1 && !is_quiet {
+        } else if count == 1 && (!is_quiet || asked == Asked::Some) {
             page.say(self.last.as_slice())?;
             page.say(b"\n")
         } else {

@@ -1,6 +1,7 @@
 //! What a terminal shows of what is reported to it.
 ghost use Rattle.std.specs.Prelude.{◌≡◌};
 
+use crate::people::Asked;
 use crate::screen::{Moment, Screen};
 use fibs_advice::plays::Listing;
 use fibs_drawing::Watching;
@@ -114,8 +115,9 @@ impl<'a> Screen<'a> {
         if why == PlainRefusal::NotOn {
             self.memory.advising.inquired = true;
         }
+        let start = self.page.text.len();
         append_not_sent(why, &mut self.page.text)?;
-        self.page.say(b"\n")
+        self.page.end_row(start)
     }
 
     /// A connection was made.
@@ -133,10 +135,12 @@ impl<'a> Screen<'a> {
         let bytes = command.as_bytes();
         if self.memory.situation.hear_sent(bytes) {
             self.memory.advising.says_again = true;
+            self.memory.boards.asked = false;
         }
-        self.memory.boards.asked = bytes == b"board".as_slice();
-        if bytes == b"who".as_slice() {
-            self.memory.list.is_due = true;
+        if bytes == b"board".as_slice() {
+            self.memory.boards.asked = true;
+        } else if bytes == b"who".as_slice() {
+            self.memory.list.asked = Asked::Everybody;
         }
         self.page.say_all(&[b"sent ", bytes, b"\n"])
     }
@@ -145,6 +149,7 @@ impl<'a> Screen<'a> {
     fn say_passed(&mut self, line: &[u8]) -> Result<(), AllocError> {
         self.memory.situation.hear_passed(line);
         self.memory.watching.hear_passed(line);
+        self.memory.list.hear_passed(line);
         self.memory.advising.says_again = true;
         self.page.say(b"sent as it is: ")?;
         self.page.show_row(line)
@@ -154,11 +159,12 @@ impl<'a> Screen<'a> {
     pub(crate) fn say_refused(&mut self, why: Refusal) -> Result<(), AllocError>
         ensures { self.new.memory.looking ≡ self.old.memory.looking }
     {
-        self.memory.advising.inquired = why != Refusal::NotReady;
+        self.memory.advising.inquired = true;
         let is_told = self.memory.situation.standing.is_told_by_text();
         let words = words_of(why, self.memory.rule.as_slice(), is_told);
+        let start = self.page.text.len();
         append_reason(words, why.number(), why, &mut self.page.text)?;
-        self.page.say(b"\n")
+        self.page.end_row(start)
     }
 
     /// The connection is over.

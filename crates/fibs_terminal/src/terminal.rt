@@ -3,7 +3,7 @@
 ghost use Rattle.std.specs.Prelude.{◌≡◌, OnOk, IfOk};
 ghost use Rattle.std.specs.Io.KnownBytes.{Appends};
 ghost use Rattle.fibs_front.specs.Wishes.{wish_value};
-ghost use Rattle.fibs_terminal.specs.Asking.{AsksInBounds, KnownStays, SendsUntaken};
+ghost use Rattle.fibs_terminal.specs.Asking.{AsksInBounds, KnownGoesOn, SendsUntaken};
 ghost use Rattle.fibs_terminal.specs.Grown.{Grown};
 ghost use Rattle.fibs_terminal.specs.Resting.{ShowsAdvice};
 ghost use Rattle.fibs_terminal.specs.Trying.{GoesOn, ShowsTried};
@@ -130,7 +130,7 @@ impl<W: Write + Drop, C: Clock + Drop> Words for Terminal<'_, W, C> {
         ensures told { OnOk result (Grown (W.contents self.old.out) (W.contents self.new.out)) }
         ensures asks { IfOk result (λ wish. AsksInBounds line.old.items (wish_value wish line.new.items)) }
         // What the client knows is never respelled: a decision, an order, a line to people.
-        ensures known { KnownStays client.now line.old.items line.new.items result }
+        ensures known { KnownGoesOn client.now line.old.items line.new.items result }
         // What goes to the server as it is, the client would not take.
         ensures sent { SendsUntaken client.now line.new.items result }
         // A move that is tried from now on is one that the client would take, and its board is shown.

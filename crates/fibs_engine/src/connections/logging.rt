@@ -121,15 +121,15 @@ impl<S: Link + Drop, W: Write + Drop, E: Write + Drop> Logged<S, W, E> {
 
 /// Writes a line with each byte 255 twice, as telnet sends it, since one alone begins a command.
 fn write_doubled<W: Write>(line: &[u8], log: &mut W) -> Result<(), Broken> {
-    let mut start = 0;
-    for at in 0..line.len() {
-        if line[at] == 255 {
-            write_bytes(line[..at + 1].get(start..).unwrap_or(b""), log)?;
-            // what is written next begins with this byte once more
-            start = at;
+    let mut is_first = true;
+    for piece in line.split(|byte| *byte == 255) {
+        if !is_first {
+            write_bytes(&[255, 255], log)?;
         }
+        write_bytes(piece, log)?;
+        is_first = false;
     }
-    write_bytes(line.get(start..).unwrap_or(b""), log)
+    Ok(())
 }
 
 /// Appends a line to a log.

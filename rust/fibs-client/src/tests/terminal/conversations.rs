@@ -82,14 +82,16 @@ fn connections_come_and_go() {
 }
 
 /// Lines that are typed, and the last rows that are shown then.
-static TYPED: [Scene; 19] = [
+static TYPED: [Scene; 25] = [
     (&[Step::Types(b"send accept")], "sent as it is: accept\n"),
     (&[Step::Types(b"send roll")], "Type it without send: roll\n"),
     (&[Step::Types(b"roll"), Step::Types(b"send roll")], "sent as it is: roll\n"),
     (&[Step::Types(b"nonsense")], "unknown: help lists the words\n"),
     (&[Step::Types(b"leave")], "sent as it is: leave\n"),
     (&[Step::Types(b"ratings bob")], "not a word of this client: send ratings bob sends it as it is\n"),
-    (&[Step::Types(b"Show Saved")], "not a word of this client: send show Saved sends it as it is\n"),
+    (&[Step::Types(b" Show Saved ")], "sent as it is: show saved\n"),
+    (&[Step::Types(b" WATCH Eve ")], "sent as it is: watch Eve\n"),
+    (&[Step::Types(b"help order roll")], "withdraw roll: it no longer does.\n"),
     (&[Step::Types(b"toggle double")], "not a word of this client: send toggle double sends it as it is\n"),
     (
         &[Step::Types(b"invite carol unlimited")],
@@ -112,7 +114,14 @@ static TYPED: [Scene; 19] = [
     ),
     (&[Step::Types(b"help"), Step::Rests], "help WORD says more about a word.\nYour turn: roll, or double.\n"),
     (&[Step::Types(b"help roll"), Step::Rests], "roll (or r): rolls your dice.\n"),
-    (&[Step::Types(b"help DOUBLE")], "No such word: help lists the words.\n"),
+    (
+        &[Step::Types(b"help DOUBLE ")],
+        "double: offers to double the stake, before you roll. No short form.\n",
+    ),
+    (&[Step::Types(b"help nonsense")], "No such word: help lists the words.\n"),
+    (&[Step::Types(b"gag bob "), Step::Types(b"ungag bob ")], "bob is heard again.\n"),
+    (&[Step::Types(b"gag Bob"), Step::Types(b"ungag bob")], "Nobody of that name is gagged.\n"),
+    (&[Step::Types(b"moves ALL ")], "No board of this game has shown a roll and its play yet.\n"),
     (
         &[Step::Types(b"say hi"), Step::Hears(b"** 1 user heard you.\r\n"), Step::Rests],
         "sent say hi\n** 1 user heard you.\n",
@@ -128,7 +137,7 @@ fn typed_lines_are_answered() {
 static HEARD: [Scene; 3] = [
     (
         &[Step::Types(b"gag bob"), Step::Hears(b"12 bob hi\r\n"), Step::Hears(b"13 bob hi\r\n")],
-        "bob is gagged on this screen: ungag ends it.\n",
+        "bob is gagged on this screen: ungag NAME ends it.\n",
     ),
     (
         &[
@@ -178,6 +187,26 @@ static TO_MOVE_STEPS: [Step<'static>; 2] = [Step::Hears(WELCOME), Step::Hears(TO
 fn what_is_the_players_is_bold() {
     let settings = Settings { columns: 60, ..colour_settings() };
     assert_has(settings, &TO_MOVE_STEPS, &BOLD_ROWS);
+}
+
+/// The first board of a match in which nobody may double.
+const NOBODY_DOUBLES: &[u8] =
+    b"board:You:bob:1:0:0:0:-2:0:0:0:0:5:0:3:0:0:0:-5:5:0:0:0:-3:0:-5:0:0:0:0:2:0:1:6:2:0:0:1:0:0:0:1:-1:0:25:0:0:0:0:2:0:0:0\r\n";
+
+/// The columns of a terminal, and the row of the cube there.
+static CUBE_ROWS: [(usize, &str); 4] = [
+    (80, " |                  |BAR|                  |   cube 1, no doubling\n"),
+    (66, " |                  |BAR|                  |   cube 1, no doubling\n"),
+    (65, " |                  |BAR|                  |   cube 1, dead\n"),
+    (60, " |                  |BAR|                  |   cube 1, dead\n"),
+];
+
+#[test]
+fn no_word_beside_the_board_is_cut() {
+    for (columns, row) in &CUBE_ROWS {
+        let settings = Settings { columns: *columns, ..colour_settings() };
+        assert_has(settings, &[Step::Hears(WELCOME), Step::Hears(NOBODY_DOUBLES)], &[row]);
+    }
 }
 
 /// Rows of the upper half after the opponent's move: the two checkers that have come to 20 are marked.

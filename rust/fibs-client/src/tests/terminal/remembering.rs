@@ -91,7 +91,7 @@ static QUIET: [Scene; 3] = [
             Step::Hears(b"9 bob 1041253132 hi\r\n"),
             Step::Hears(b"7 bob bob logs in.\r\n"),
         ],
-        "bob is gagged on this screen: ungag ends it.\n",
+        "bob is gagged on this screen: ungag NAME ends it.\n",
     ),
     (
         &[

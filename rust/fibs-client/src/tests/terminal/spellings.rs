@@ -26,7 +26,7 @@ static LINES: [(&[u8], &str); 22] = [
     (b"  say  Hi ", "sent say  Hi \n"),
     (b"Invite Bob 5 ", "sent invite Bob 5\n"),
     (b"Join Bob", "sent join Bob\n"),
-    (b"Gag Bob", "Bob is gagged on this screen: ungag ends it.\n"),
+    (b"Gag Bob", "Bob is gagged on this screen: ungag NAME ends it.\n"),
     (b"Message Bob Hi There", "sent message Bob Hi There\n"),
     (b"Whisper Hi There", "sent whisper Hi There\n"),
     (b"Shout Hi There", "sent shout Hi There\n"),
