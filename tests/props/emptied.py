@@ -46,13 +46,15 @@ def types_of(texts):
 
 
 def owner_of(line, file, types):
-    """The path of what a block of methods is of, with its trait's name behind it."""
+    """The path of what a block of methods is of, with its trait's name behind it. The prover names a method of a trait by
+    where the block stands."""
     trait, _, of = METHODS.match(line)[1].rpartition(" for ")
     of = re.match(r"(?:\w+::)*(\w+)", of)
     if not of:
         return None
     words = re.findall(r"(?<!')\b\w+\b(?!::)", trait)
-    return [*types.get(of[1], modules_of(file)), of[1] + "".join(it for it in words if len(it) > 1)]
+    modules = modules_of(file) if trait else types.get(of[1], modules_of(file))
+    return [*modules, of[1] + "".join(it for it in words if len(it) > 1)]
 
 
 def opening_of(lines, first, indent):
