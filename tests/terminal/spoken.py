@@ -3,6 +3,7 @@
 import random
 import re
 import sys
+import time
 
 from people import ROOT, Failed, Person, Served, Table, same
 from words import ENDED, REFUSED, read
@@ -75,11 +76,18 @@ class Listener:
     def __init__(self, server, seed, **more):
         self.chance = random.Random(seed)
         self.ann = Person(server.port, FIBS_WORDS='1', **more)
-        self.rows, self.told, self.position, self.typed = [], [], None, []
+        self.rows, self.told, self.position, self.typed, self.early = [], [], None, [], 0
 
     def types(self, line):
         self.typed.append(line)
+        self.early = 0
         self.ann.type(line)
+
+    def types_again(self):
+        """The server has said the roll, and its board is still to come."""
+        self.early += 1
+        time.sleep(0.1)
+        self.ann.type(self.typed[-1])
 
     def moves(self, dice):
         plays = rules.plays((self.position.own, self.position.other), dice)
@@ -106,9 +114,11 @@ class Listener:
         self.rows.append(row)
         if DRAWN.fullmatch(row):
             raise Failed('a row of a picture: %r' % row)
-        if REFUSED.fullmatch(row):
+        if row.endswith(' [6 Waiting]') and self.early < 50:
+            self.types_again()
+        elif REFUSED.fullmatch(row):
             raise Failed('%r was refused: %r' % (self.typed[-1:], row))
-        if is_told(self.rows[-len(ROWS):]):
+        elif is_told(self.rows[-len(ROWS):]):
             self.hears_board(self.rows[-len(ROWS):])
         elif found := ROLLED.fullmatch(row):
             self.moves((int(found[1]), int(found[2])))

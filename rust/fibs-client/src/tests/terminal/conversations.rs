@@ -114,10 +114,7 @@ static TYPED: [Scene; 25] = [
     ),
     (&[Step::Types(b"help"), Step::Rests], "help WORD says more about a word.\nYour turn: roll, or double.\n"),
     (&[Step::Types(b"help roll"), Step::Rests], "roll (or r): rolls your dice.\n"),
-    (
-        &[Step::Types(b"help DOUBLE ")],
-        "double: offers to double the stake, before you roll. No short form.\n",
-    ),
+    (&[Step::Types(b"help DOUBLE ")], "double: offers to double the stake, before you roll. No short form.\n"),
     (&[Step::Types(b"help nonsense")], "No such word: help lists the words.\n"),
     (&[Step::Types(b"gag bob "), Step::Types(b"ungag bob ")], "bob is heard again.\n"),
     (&[Step::Types(b"gag Bob"), Step::Types(b"ungag bob")], "Nobody of that name is gagged.\n"),

@@ -12,7 +12,10 @@ static RULES: [Scene; 5] = [
     (&[Step::Hears(BEARING_OFF), Step::Types(b"move 3-off")], "\nA checker farther back goes first. [9 IllegalPlay]\n"),
     (&[Step::Hears(BEARING_OFF), Step::Types(b"move 6-1")], "\nYour opponent holds 1. [9 IllegalPlay]\n"),
     (&[Step::Hears(BEARING_OFF), Step::Types(b"move 4-off")], "\nsent move 4-off\n"),
-    (&[Step::Hears(TO_MOVE), Step::Types(b"move 6-off")], "\nNo checker goes off before all are home. [9 IllegalPlay]\n"),
+    (
+        &[Step::Hears(TO_MOVE), Step::Types(b"move 6-off")],
+        "\nNo checker goes off before all are home. [9 IllegalPlay]\n",
+    ),
     (&[Step::Hears(TO_MOVE), Step::Types(b"move 24-18")], "\nBoth dice must be played. [9 IllegalPlay]\n"),
 ];
 
