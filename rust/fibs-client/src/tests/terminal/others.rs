@@ -78,12 +78,15 @@ fn what_is_said_of_one_player_changes_nothing_of_another_one() {
 static LISTS: [Scene; 4] = [
     (
         &[
+            Step::Hears(b"5 bob - - 1 0 1623.45 0 0 1 host - -\r\n"),
+            Step::Hears(b"5 eve - - 1 0 1500.00 0 0 1 host - -\r\n"),
+            Step::Hears(b"6\r\n"),
             Step::Types(b"send who ready"),
             Step::Hears(b"5 bob - - 1 0 1623.45 0 0 1 host - -\r\n"),
             Step::Hears(b"5 eve - - 1 0 1500.00 0 0 1 host - -\r\n"),
             Step::Hears(b"6\r\n"),
         ],
-        "2 players: type players\n",
+        "sent as it is: who ready\n2 players: type players\n",
     ),
     (
         &[
