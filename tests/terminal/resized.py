@@ -143,7 +143,7 @@ def a_shell_above_the_program_stops_with_it():
         ann.type('say back')
         same('what was sent', server.line(), 'say back')
         ann.hangs_up()
-        # by the signal, or by the end of what is typed: whichever the program sees first
+        # the signal ends the program; the end of what is typed would too, with status 0
         same('the ending', ann.report() in (['ended', '129'], ['ended', '0']), True)
         same('the end of the connection', server.line(), None)
         ann.close()
