@@ -14,8 +14,8 @@ import subprocess
 import sys
 
 ROOT = pathlib.Path(__file__).resolve().parent.parent
-SOURCES = sorted(path for crate in ('fibs_c', 'fibs_records')
-                 for path in (ROOT / 'crates' / crate / 'src').glob('*.rt'))
+SOURCES = sorted(path for crate in ('fibs_c',)
+                 for path in (ROOT / 'crates' / crate / 'src').rglob('*.rt'))
 
 # The header's names of the records.
 RECORDS = {'LinesHandle': 'fibs_lines', 'ClientHandle': 'fibs_client', 'DirectoryHandle': 'fibs_directory',
@@ -122,9 +122,9 @@ def header():
 
 
 # Statuses of refusals and faults, by the numbers that the crates give them.
-FAMILIES = {'fibs_history/src/refusal.rt': ('Refusal', 0), 'fibs_commands/src/plain.rt': ('PlainFault', 100),
+FAMILIES = {'fibs_session/src/histories/refusal.rt': ('Refusal', 0), 'fibs_commands/src/plain.rt': ('PlainFault', 100),
             'fibs_position/src/position_fault.rt': ('PositionFault', 200), 'fibs_fields/src/fault.rt': ('Fault', 300),
-            'fibs_directory/src/fault.rt': ('DirectoryFault', 400)}
+            'fibs_messages/src/directory/fault.rt': ('DirectoryFault', 400)}
 
 
 def screaming(name):
@@ -158,17 +158,17 @@ BOARD = {'LENGTH': 4, 'SCORE': 5, 'OPPONENT_SCORE': 6, 'PLACES': 7, 'TURN': 33, 
 def enumerators():
     """The enumerators other than statuses, by the numbers in the library's code."""
     found = {'FIBS_FAULT_NONE': 0, 'FIBS_DECISION_NONE': 0, 'FIBS_KIND_TEXT': 0}
-    decisions = (ROOT / 'crates/fibs_records/src/decisions.rt').read_text()
+    decisions = (ROOT / 'crates/fibs_c/src/records/decisions.rt').read_text()
     kinds = {name: int(number) for number, name in re.findall(r'(\d) => Some\(Decision::(\w+)[,()]', decisions)}
     kinds.pop('Resign')
     kinds.update(('Resign' + name, int(number)) for name, number in re.findall(r'Stake::(\w+) => (\d)', decisions))
-    fields = 'fibs_records/src/fields.rt'
+    fields = 'fibs_c/src/records/fields.rt'
     families = {
         'PHASE': numbers_of('fibs_c/src/positions.rt', r'Phase::(\w+) => (\d),'),
         'DECISION': {screaming(name): number for name, number in kinds.items()},
         'FIELD': {**numbers_of(fields, r'pub fn (\w+)\([^)]*\) -> FieldPart[^{]*\{[^{]*\{\s*FieldPart::of_\w+\((\d),'),
                   **numbers_of(fields, r'Field::(Text)\(text\) => FieldPart::of_bytes\((\d)')},
-        'KIND': numbers_of('fibs_records/src/kinds.rt', r'Reading::(Numbered|Board|Malformed)\b.{1,200}?kind: (\d),'),
+        'KIND': numbers_of('fibs_c/src/records/kinds.rt', r'Reading::(Numbered|Board|Malformed)\b.{1,200}?kind: (\d),'),
         'BOARD': {name: field - 4 for name, field in BOARD.items()}}
     families['KIND']['MESSAGE'] = families['KIND'].pop('NUMBERED')
     for family, numbers in families.items():
@@ -184,7 +184,7 @@ def names_in_c():
     phases = dict(re.findall(r'Phase::(\w+) => "(\w+)"', (ROOT / 'crates/fibs_position/src/phase.rt').read_text()))
     numbers = numbers_of('fibs_c/src/positions.rt', r'Phase::(\w+) => (\d),')
     by_number = {numbers[screaming(variant)]: name for variant, name in phases.items()}
-    decisions = (ROOT / 'crates/fibs_records/src/decisions.rt').read_text()
+    decisions = (ROOT / 'crates/fibs_c/src/records/decisions.rt').read_text()
     kinds = {0: 'None'}
     kinds.update((int(n), name) for n, name in re.findall(r'(\d) => Some\(Decision::(\w+)[,()]', decisions))
     kinds.update((int(n), 'Resign' + name) for name, n in re.findall(r'Stake::(\w+) => (\d)', decisions))
@@ -197,17 +197,17 @@ def limits_of():
     def read(path, pattern):
         return int(re.search(pattern, (ROOT / path).read_text())[1].replace('_', ''))
     version = re.search(r'#define FIBS_VERSION "(.*)"', (ROOT / 'include/fibs.h').read_text())[1].split('.')
-    names = re.findall(r'=> "(\w+)"', (ROOT / 'crates/fibs_records/src/status.rt').read_text())
+    names = re.findall(r'=> "(\w+)"', (ROOT / 'crates/fibs_c/src/records/status.rt').read_text())
     return {
         'FIBS_MAX_LINE': read('crates/fibs_lines/src/lib.rt', r'pub const LIMIT: usize = ([\d_]+);'),
-        'FIBS_MAX_BOARD': read('crates/fibs_boards/src/print.rt', r'const LINE_LEN: usize = ([\d_]+);'),
+        'FIBS_MAX_BOARD': read('crates/fibs_fields/src/boards/print.rt', r'const LINE_LEN: usize = ([\d_]+);'),
         'FIBS_MAX_COMMAND': read('crates/fibs_commands/src/text.rt', r'pub type CommandText = ArrayString<(\d+)>'),
-        'FIBS_MAX_WIRE': read('crates/fibs_records/src/wire.rt', r'pub bytes: \[u8; (\d+)\]'),
-        'FIBS_MAX_NAME': read('crates/fibs_records/src/boards.rt', r'pub player: \[u8; (\d+)\]'),
+        'FIBS_MAX_WIRE': read('crates/fibs_c/src/records/wire.rt', r'pub bytes: \[u8; (\d+)\]'),
+        'FIBS_MAX_NAME': read('crates/fibs_c/src/records/boards.rt', r'pub player: \[u8; (\d+)\]'),
         'FIBS_MAX_STATUS_NAME': max(map(len, names)),
-        'FIBS_MAX_STEPS': read('crates/fibs_records/src/decisions.rt', r'pub steps: \[PlayStep; (\d+)\]'),
+        'FIBS_MAX_STEPS': read('crates/fibs_c/src/records/decisions.rt', r'pub steps: \[PlayStep; (\d+)\]'),
         'FIBS_MAX_PLAYS': math.comb(15 + 4 - 1, 4),
-        'FIBS_MAX_PLAYERS': read('crates/fibs_directory/src/directory.rt', r'const MOST_PLAYERS: usize = ([\d_]+);'),
+        'FIBS_MAX_PLAYERS': read('crates/fibs_messages/src/directory/directory.rt', r'const MOST_PLAYERS: usize = ([\d_]+);'),
         'FIBS_VERSION': '.'.join(version), 'FIBS_VERSION_MAJOR': int(version[0]),
         'FIBS_VERSION_MINOR': int(version[1]), 'FIBS_VERSION_PATCH': int(version[2])}
 

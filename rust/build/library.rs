@@ -13,25 +13,18 @@ pub const CRATES: &[(&str, &[&str])] = &[
     (
         "",
         &[
-            "fibs_lines", "fibs_fields", "fibs_boards", "fibs_messages", "fibs_copied_lines", "fibs_rules",
-            "fibs_position", "fibs_commands", "fibs_history", "fibs_directory", "fibs_session", "fibs_engine",
-            "fibs_show",
+            "fibs_lines", "fibs_fields", "fibs_messages", "fibs_rules", "fibs_position", "fibs_commands",
+            "fibs_session", "fibs_engine", "fibs_show",
         ],
     ),
-    (
-        "MODEL",
-        &[
-            "fibs_machine", "fibs_carrier", "fibs_wires", "fibs_model_server", "fibs_model", "fibs_scripts",
-            "fibs_replay",
-        ],
-    ),
-    ("C", &["fibs_typed", "fibs_records", "fibs_c"]),
+    ("MODEL", &["fibs_model", "fibs_replay"]),
+    ("C", &["fibs_c"]),
 ];
 
 /// What is written by hand in place of a file: what works with sockets is left out, and handles of C are pointers.
 pub const BY_HAND: &[(&str, &str, &str)] = &[
-    ("fibs_carrier", "lib", "mod carrier;\npub use carrier::{Broken, Carrier, InMemory, Way};\n"),
-    ("fibs_carrier", "sockets", ""),
+    ("fibs_model", "carriers", "mod carrier;\npub use carrier::{Broken, Carrier, InMemory, Way};\n"),
+    ("fibs_model", "carriers/sockets", ""),
     ("fibs_engine", "connections/alive", ""),
     ("fibs_engine", "connections/attention", ""),
     ("fibs_engine", "connections/dial", ""),
@@ -41,10 +34,10 @@ pub const BY_HAND: &[(&str, &str, &str)] = &[
     ("fibs_engine", "connections/pacing", ""),
     ("fibs_engine", "retrying", ""),
     ("fibs_engine", "standard", ""),
-    ("fibs_records", "client_handle", "pub use crate::handles::ClientHandle;\n"),
-    ("fibs_records", "directory_handle", "pub use crate::handles::DirectoryHandle;\n"),
-    ("fibs_records", "lines_handle", "pub use crate::handles::LinesHandle;\n"),
-    ("fibs_records", "loose", ""),
+    ("fibs_c", "records/client_handle", "pub use crate::handles::ClientHandle;\n"),
+    ("fibs_c", "records/directory_handle", "pub use crate::handles::DirectoryHandle;\n"),
+    ("fibs_c", "records/lines_handle", "pub use crate::handles::LinesHandle;\n"),
+    ("fibs_c", "records/loose", ""),
     ("fibs_replay", "play_loop", ""),
 ];
 

@@ -16,7 +16,7 @@ const PROGRAM: &str = "fibs";
 const OF_TESTS: &str = "fibs_test_tools";
 
 /// Where `--version` has its text, what it says of the program that is proved, and what is true of this one.
-const VERSION: (&str, &str, &str) = ("fibs_arguments/arguments.rs", "(proved with ", "(built from the proved text, ");
+const VERSION: (&str, &str, &str) = ("fibs_cli/arguments.rs", "(proved with ", "(built from the proved text, ");
 
 fn main() {
     if let Err(why) = erase() {

@@ -67,7 +67,7 @@ fn wrong_erasures_are_seen() {
         ("fibs_lines/lines.rs", "            self.lent = false;\n", ""),
         ("fibs_lines/lines.rs", "-> bool {", "-> bool\n        ensures { OnTrue result }\n    {"),
         ("fibs_messages/print.rs", "out.may_push(b' ')?", "out.push(b' ')?"),
-        ("fibs_boards/board.rs", "pub(crate) fn field", "pub fn field"),
+        ("fibs_fields/boards/board.rs", "pub(crate) fn field", "pub fn field"),
         ("fibs_rules/turn.rs", "if a == b {", "if a != b {"),
     ] {
         let text = fs::read_to_string(out.join(file)).unwrap();

@@ -127,12 +127,12 @@ EVENTS = [
 
 # Where the code has each of them: the file, the enum.
 ENUMS = [
-    ('fibs_history/src/refusal.rt', 'Refusal', REFUSALS),
+    ('fibs_session/src/histories/refusal.rt', 'Refusal', REFUSALS),
     ('fibs_commands/src/plain.rt', 'PlainFault', FAULTS),
     ('fibs_position/src/position_fault.rt', 'PositionFault', POSITIONS),
     ('fibs_fields/src/fault.rt', 'Fault', FIELDS),
-    ('fibs_directory/src/fault.rt', 'DirectoryFault', DIRECTORY),
-    ('fibs_machine/src/refusal.rt', 'WorldRefusal', EVENTS),
+    ('fibs_messages/src/directory/fault.rt', 'DirectoryFault', DIRECTORY),
+    ('fibs_model/src/machine/refusal.rt', 'WorldRefusal', EVENTS),
 ]
 
 # The statuses of the library for C: a family's hundred, and what its names begin with.

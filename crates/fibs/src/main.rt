@@ -1,11 +1,13 @@
 //! `fibs`: a client for the First Internet Backgammon Server. The command line, the devices and the exit status.
 #![tactic(auto)]
 
-use fibs_arguments::{Answer, Asked};
+mod player;
+
+use fibs_cli::arguments::{Answer, Asked};
 use fibs_cli::program;
 use fibs_engine::fault::EngineFault;
 use fibs_engine::standard::take_closed;
-use fibs_player::Streams;
+use player::Streams;
 use std::env;
 use std::io::ErrorKind;
 use std::process::ExitCode;
@@ -42,10 +44,10 @@ fn run(rt: &HostRuntime, streams: &mut Streams) -> Result<u8, EngineFault> {
     let alloc = rt.alloc();
     let words = words(rt)?;
     let asked = match &words {
-        Some(words) => fibs_arguments::read(alloc, words.as_slice()),
+        Some(words) => fibs_cli::arguments::read(alloc, words.as_slice()),
         None => Asked::Answer(Answer::Refused(String::from_str(alloc, UNREADABLE)?)),
     };
-    fibs_player::run(rt, streams, &asked)
+    player::run(rt, streams, &asked)
 }
 
 /// The words of the command line, if all of them are text.

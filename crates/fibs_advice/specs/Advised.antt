@@ -1,7 +1,7 @@
 -- What is advised in a state, and how a terminal says it (the project's own).
 use Rattle.std.specs.Prelude.{◌≡◌, ◌≢◌, ◌++◌, ◌∷◌, ℕ, List, [], codes, Bool, true, false}
 use Rattle.std.specs.Prelude.{Option, Some, None, IfSome, is_none, option_map}
-use Rattle.fibs_boards.specs.Board.{BoardFields}
+use Rattle.fibs_fields.specs.Board.{BoardFields}
 use Rattle.fibs_position.specs.Allowed.{allowed_of}
 use Rattle.fibs_position.specs.DecisionValue.{DecisionValue, accept, reject, decision_of}
 use Rattle.fibs_commands.specs.Commands.{command_of}
@@ -9,8 +9,8 @@ use Rattle.fibs_commands.specs.PlainCommands.{automove_off, greedy_off}
 use Rattle.fibs_position.specs.declared.decision.Decision.{Decision}
 use Rattle.fibs_position.specs.declared.decision.Decision.TheVariants as D
 use Rattle.fibs_position.specs.declared.direction.Direction.{Direction}
-use Rattle.fibs_history.specs.Machine.{Talk, shown_now, unconfirmed_now, plain_refusal}
-use Rattle.fibs_history.specs.Words.{Ask}
+use Rattle.fibs_session.specs.History.Machine.{Talk, shown_now, unconfirmed_now, plain_refusal}
+use Rattle.fibs_session.specs.History.Words.{Ask}
 use Rattle.fibs_advice.specs.Offers.{OffersNow, is_taken, may_decide, first_way, hint_text}
 use Rattle.fibs_advice.specs.Standings.{hides_offers, is_unsure, repeats, owes_answer}
 use Rattle.fibs_advice.specs.Rows.{answers, names_way_on, plain_in, rolls_alone, shows_offers}

@@ -1,6 +1,6 @@
 -- Where a decision leads (the project's own).
 use Rattle.std.specs.Prelude.{◌≡◌, [], ◌∷◌, Some}
-use Rattle.fibs_boards.specs.Board.{BoardFields}
+use Rattle.fibs_fields.specs.Board.{BoardFields}
 use Rattle.fibs_position.specs.BoardEffect.{effect_of}
 use Rattle.fibs_position.specs.DecisionValue.{DecisionValue}
 

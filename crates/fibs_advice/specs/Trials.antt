@@ -1,5 +1,5 @@
 -- A move that the user looks at before it is sent (the project's own).
-use Rattle.fibs_boards.specs.Board.{BoardFields}
+use Rattle.fibs_fields.specs.Board.{BoardFields}
 use Rattle.fibs_position.specs.DecisionValue.{DecisionValue, move}
 use Rattle.fibs_position.specs.GameOf.{game_of}
 use Rattle.fibs_rules.specs.PlayValue.{hops_of}

@@ -1,6 +1,6 @@
 //! What is advised in a state.
 ghost use Rattle.std.specs.Prelude.{◌≡◌, true, false, None, IfOk, IfSome, IsTrue, is_none};
-ghost use Rattle.fibs_history.specs.Machine.{Talk, shown_now, unconfirmed_now, plain_refusal};
+ghost use Rattle.fibs_session.specs.History.Machine.{Talk, shown_now, unconfirmed_now, plain_refusal};
 ghost use Rattle.fibs_position.specs.DecisionValue.{decision_of};
 ghost use Rattle.fibs_commands.specs.PlainOf.{plain_value};
 ghost use Rattle.fibs_session.specs.Calls.Standing.{StandsAfter};

@@ -1,8 +1,8 @@
 //! Which rule a move breaks.
 ghost use Rattle.std.specs.Prelude.{◌≤◌};
 
-use fibs_boards::fields::{FIRST_DIE, SECOND_DIE};
 use fibs_commands::BAR;
+use fibs_fields::boards::fields::{FIRST_DIE, SECOND_DIE};
 use fibs_fields::decimal::append_number;
 use fibs_position::{Direction, GameBoard, Play, Position, Step};
 use std::alloc::AllocError;

@@ -3,8 +3,8 @@
 use crate::standing::{Shown, Standing};
 use crate::told::{Report, Told, read_told};
 use arrayvec::ArrayVec;
-use fibs_boards::Board;
-use fibs_boards::fields::{MATCH_LENGTH, OTHER_SCORE, OWN_SCORE, UNLIMITED};
+use fibs_fields::boards::Board;
+use fibs_fields::boards::fields::{MATCH_LENGTH, OTHER_SCORE, OWN_SCORE, UNLIMITED};
 use fibs_fields::split::split;
 use fibs_fields::trailing_spaces::without_spaces;
 use fibs_lines::LOGIN_PROMPT;

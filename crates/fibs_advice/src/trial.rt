@@ -8,8 +8,8 @@ ghost use Rattle.fibs_position.specs.GameOf.{game_of};
 ghost use Rattle.fibs_rules.specs.PlayValue.{hops_of};
 ghost use Rattle.fibs_advice.specs.Leads.{LeadsTo};
 
-use fibs_boards::laws::fields_tell_boards;
 use fibs_commands::{CommandText, decision_text};
+use fibs_fields::boards::laws::fields_tell_boards;
 use fibs_position::laws::decisions_are_valid;
 use fibs_position::{Decision, GameBoard, Play, effect};
 

@@ -3,15 +3,15 @@ use Rattle.std.proofs.Common.{◌≡◌, ◌≢◌, ℕ, List, [], drop, refl, s
 use Rattle.std.specs.Prelude.{Option, Some, Result, Ok, Err, IsErr}
 use Rattle.std.specs.Result.{result_err}
 use Rattle.arrayvec.specs.ArrayString.{ArrayString}
-use Rattle.fibs_history.specs.declared.refusal.Refusal.{Refusal}
-use Rattle.fibs_history.specs.declared.refusal.PlainRefusal.{PlainRefusal}
+use Rattle.fibs_session.specs.declared.histories.refusal.Refusal.{Refusal}
+use Rattle.fibs_session.specs.declared.histories.refusal.PlainRefusal.{PlainRefusal}
 use Rattle.fibs_session.specs.Calls.Doing.{Does}
 use Rattle.fibs_session.specs.Calls.SessionOf.{refusal_in}
 use Rattle.fibs_session.specs.Calls.Standing.{ClientValue}
 use Rattle.fibs_session.specs.History.Machine.{InputValue, step, wire_of}
-use Rattle.fibs_records.specs.Statuses.{refusal_status, plain_status}
-use Rattle.fibs_records.specs.Wires.{Holds, IsEmptied}
-use Rattle.fibs_records.specs.declared.wire.Wire.{Wire}
+use Rattle.fibs_c.specs.Records.Statuses.{refusal_status, plain_status}
+use Rattle.fibs_c.specs.Records.Wires.{Holds, IsEmptied}
+use Rattle.fibs_c.specs.declared.records.wire.Wire.{Wire}
 use Rattle.fibs_c.specs.ClientDoor.{DoesOnWire, DoesUnsaid}
 
 -- a fact of what a handle held and of what it holds again is one of the handle

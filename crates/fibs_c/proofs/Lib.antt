@@ -2,3 +2,9 @@
 pub mod ClientLemmas
 pub mod ManyLinesLemmas
 pub mod PlayerLemmas
+-- Why what is put into a record is the value.
+pub mod LooseValues
+pub mod HandleValues
+pub mod NumberLemmas
+pub mod RoomLemmas
+pub mod WireLemmas

@@ -12,12 +12,12 @@ use Rattle.std.proofs.Math.Seq.{take-add, length-take-le}
 use Rattle.std.specs.List.{AllByRecursion, between, concat}
 use Rattle.fibs_lines.specs.Lines.{ReadLine, lines_of, kept_limit}
 use Rattle.fibs_session.specs.History.Hearing.{line_reading}
-use Rattle.fibs_records.specs.Kinds.{told_kind}
+use Rattle.fibs_c.specs.Records.Kinds.{told_kind}
 use Rattle.fibs_lines.specs.LinesValue.{LinesValue, StandsAfter}
 use Rattle.fibs_c.specs.LinesDoor.{FeedsLine, WritesLine, copied}
 use Rattle.fibs_c.specs.ManyLines.{line_in, line_bytes, kind_in, kind_of_line, LiesWithin}
 use Rattle.fibs_c.specs.ReadingOn.{ReadSoFar}
-use Rattle.fibs_records.specs.Texts.{is_set}
+use Rattle.fibs_c.specs.Records.Texts.{is_set}
 use Rattle.fibs_c.specs.declared.lines.FedLine.{FedLine}
 use Rattle.fibs_c.specs.declared.many_lines.ToldLine.{ToldLine}
 

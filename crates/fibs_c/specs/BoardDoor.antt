@@ -1,13 +1,13 @@
 -- What C gets of a board.
 use Rattle.std.specs.Prelude.{◌≡◌, ℕ, ℤ, pos, ◌+◌, ◌≤◌, ◌⊎◌, ◌&&◌, ◌||◌, Bool, not, List, int_le}
 use Rattle.std.specs.Ordering.{int_eq}
-use Rattle.fibs_boards.specs.Board.{BoardFields, BoardText, Wrong, field_of, spelling}
+use Rattle.fibs_fields.specs.Board.{BoardFields, BoardText, Wrong, field_of, spelling}
 use Rattle.fibs_fields.specs.Faults.{fault_number}
 use Rattle.fibs_fields.specs.declared.fault.Fault.{Fault}
 use Rattle.fibs_position.specs.GamePart.{same_game}
-use Rattle.fibs_records.specs.BoardOf.{IsBoardAs}
-use Rattle.fibs_records.specs.Texts.{HandsOut, flag_of}
-use Rattle.fibs_records.specs.declared.boards.BoardRecord.{BoardRecord}
+use Rattle.fibs_c.specs.Records.BoardOf.{IsBoardAs}
+use Rattle.fibs_c.specs.Records.Texts.{HandsOut, flag_of}
+use Rattle.fibs_c.specs.declared.records.boards.BoardRecord.{BoardRecord}
 
 -- the line says no board: this is the fault of its first wrong field
 pub record IsWrongBoard (line : List ℕ) (status : ℕ) : Type 0 where

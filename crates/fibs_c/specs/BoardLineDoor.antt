@@ -2,8 +2,8 @@
 use Rattle.std.specs.Prelude.{◌≡◌, ℕ, ℤ, pos, neg_ℤ, ◌+◌, ◌<◌, ◌≤◌, ◌⊎◌, ◌++◌, List, ◌∷◌, length, take, codes, flat_map}
 use Rattle.std.specs.Prelude.{slice_index_or, nat_eq, if◌then◌else◌}
 use Rattle.std.specs.Fmt.{signed_decimal}
-use Rattle.fibs_boards.specs.Board.{BoardFields, BoardText, field_of}
-use Rattle.fibs_records.specs.declared.boards.BoardRecord.{BoardRecord}
+use Rattle.fibs_fields.specs.Board.{BoardFields, BoardText, field_of}
+use Rattle.fibs_c.specs.declared.records.boards.BoardRecord.{BoardRecord}
 use Rattle.fibs_c.specs.BoardDoor.{IsPrintedBoard, IsWrongBoard}
 
 -- numbers, each after a colon

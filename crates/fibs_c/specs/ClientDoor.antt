@@ -5,20 +5,20 @@ use Rattle.fibs_commands.specs.Logins.{login_fault, login_text}
 use Rattle.fibs_commands.specs.PlainCommands.{PlainValue}
 use Rattle.fibs_commands.specs.PlainFaults.{plain_fault_number}
 use Rattle.fibs_commands.specs.declared.plain.PlainFault.{PlainFault}
-use Rattle.fibs_boards.specs.Board.{BoardFields, spelling}
+use Rattle.fibs_fields.specs.Board.{BoardFields, spelling}
 use Rattle.fibs_position.specs.DecisionValue.{DecisionValue, roll}
 use Rattle.fibs_session.specs.Calls.Standing.{ClientValue, StandsAfter}
 use Rattle.fibs_session.specs.History.Words.{Ask}
 use Rattle.fibs_session.specs.History.Machine.{Talk, InputValue, start, step, Open, Lose, Click, PlainInput, wire_of}
 use Rattle.fibs_session.specs.History.Machine.{open_refusal, unconfirmed_now, answer_now, plain_refusal, shown_now}
-use Rattle.fibs_records.specs.Asks.{IsAskAs, IsMaybeAsk}
-use Rattle.fibs_records.specs.BoardOf.{IsBoardAs}
-use Rattle.fibs_records.specs.Statuses.{refusal_status, plain_status}
-use Rattle.fibs_records.specs.Texts.{HandsOut}
-use Rattle.fibs_records.specs.Wires.{Holds, IsEmptied}
-use Rattle.fibs_records.specs.declared.boards.BoardRecord.{BoardRecord}
-use Rattle.fibs_records.specs.declared.outstanding.OutstandingRecord.{OutstandingRecord}
-use Rattle.fibs_records.specs.declared.wire.Wire.{Wire}
+use Rattle.fibs_c.specs.Records.Asks.{IsAskAs, IsMaybeAsk}
+use Rattle.fibs_c.specs.Records.BoardOf.{IsBoardAs}
+use Rattle.fibs_c.specs.Records.Statuses.{refusal_status, plain_status}
+use Rattle.fibs_c.specs.Records.Texts.{HandsOut}
+use Rattle.fibs_c.specs.Records.Wires.{Holds, IsEmptied}
+use Rattle.fibs_c.specs.declared.records.boards.BoardRecord.{BoardRecord}
+use Rattle.fibs_c.specs.declared.records.outstanding.OutstandingRecord.{OutstandingRecord}
+use Rattle.fibs_c.specs.declared.records.wire.Wire.{Wire}
 
 -- a client of that login was made; or the first of these reasons against it: one is held, the name or the password is
 -- wrong, memory ran out

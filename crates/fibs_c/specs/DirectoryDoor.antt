@@ -1,12 +1,12 @@
 -- What the functions for C do with a directory.
 use Rattle.std.specs.Prelude.{◌≡◌, ◌≢◌, ◌≤◌, ◌⊎◌, ℕ, ◌++◌, List, [], ◌∷◌, length, slice_get, Option, None, Some}
-use Rattle.fibs_directory.specs.Directory.{IsDirectory, directory_limit, entry_of, name_of}
+use Rattle.fibs_messages.specs.Directory.{IsDirectory, directory_limit, entry_of, name_of}
 use Rattle.fibs_fields.specs.Field.{FieldValue}
 use Rattle.fibs_messages.specs.FieldOf.{field_at}
 use Rattle.fibs_messages.specs.Line.{ReadingValue, numbered_line, board_line, text_line, malformed_line}
 use Rattle.fibs_messages.specs.Message.{MessageValue}
-use Rattle.fibs_records.specs.Fields.{IsToldField, told_field}
-use Rattle.fibs_records.specs.declared.fields.FieldRecord.{FieldRecord}
+use Rattle.fibs_c.specs.Records.Fields.{IsToldField, told_field}
+use Rattle.fibs_c.specs.declared.records.fields.FieldRecord.{FieldRecord}
 
 -- a directory of no messages was made, or it was refused: one is held already, or memory ran out
 abbrev pub IsNewDirectory : Option (List MessageValue) → Option (List MessageValue) → ℕ → Type 0

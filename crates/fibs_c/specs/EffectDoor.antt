@@ -1,11 +1,11 @@
 -- What C gets of a board after a decision.
 use Rattle.std.specs.Prelude.{◌≡◌, ℕ, ◌≤◌, ◌⊎◌, List, Option, None, Some}
-use Rattle.fibs_boards.specs.Board.{BoardFields, BoardText, spelling}
+use Rattle.fibs_fields.specs.Board.{BoardFields, BoardText, spelling}
 use Rattle.fibs_position.specs.BoardEffect.{effect_of}
 use Rattle.fibs_position.specs.DecisionValue.{DecisionValue}
 use Rattle.fibs_position.specs.GoodBoard.{IsGood}
 use Rattle.fibs_c.specs.PositionDoor.{IsNoPosition}
-use Rattle.fibs_records.specs.Texts.{HandsOut}
+use Rattle.fibs_c.specs.Records.Texts.{HandsOut}
 
 -- the line says this board, and it is good
 abbrev pub IsGoodIn : List ℕ → BoardFields → Type 0

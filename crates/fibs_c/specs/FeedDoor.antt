@@ -9,12 +9,12 @@ use Rattle.fibs_session.specs.Calls.Standing.{ClientValue}
 use Rattle.fibs_session.specs.History.Machine.{Piece}
 use Rattle.fibs_session.specs.History.Words.{Ask}
 use Rattle.fibs_c.specs.ClientDoor.{DoesOnWire}
-use Rattle.fibs_records.specs.Decisions.{IsMaybeDecision}
-use Rattle.fibs_records.specs.Kinds.{told_kind}
-use Rattle.fibs_records.specs.Texts.{flag_of}
-use Rattle.fibs_records.specs.Wires.{IsEmptied}
+use Rattle.fibs_c.specs.Records.Decisions.{IsMaybeDecision}
+use Rattle.fibs_c.specs.Records.Kinds.{told_kind}
+use Rattle.fibs_c.specs.Records.Texts.{flag_of}
+use Rattle.fibs_c.specs.Records.Wires.{IsEmptied}
 use Rattle.fibs_c.specs.declared.feeding.Heard.{Heard}
-use Rattle.fibs_records.specs.declared.wire.Wire.{Wire}
+use Rattle.fibs_c.specs.declared.records.wire.Wire.{Wire}
 
 -- the decision alone
 abbrev pub decision_of_ask : Option Ask → Option DecisionValue

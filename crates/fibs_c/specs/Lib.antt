@@ -14,3 +14,4 @@ pub mod DirectoryDoor
 pub mod PlayerDoor
 -- What only private functions and proofs say.
 pub mod ReadingOn
+pub mod Records

@@ -3,7 +3,7 @@ use Rattle.std.specs.Prelude.{◌≡◌, ℕ, ◌<◌, ◌≤◌, ◌++◌, ◌�
 use Rattle.std.specs.Prelude.{Option, None, Some, if◌then◌else◌}
 use Rattle.fibs_lines.specs.Lines.{ReadLine, lines_of, rest_of, kept_limit}
 use Rattle.fibs_lines.specs.LinesValue.{LinesValue, StandsAfter}
-use Rattle.fibs_records.specs.Texts.{HandsOut, is_set}
+use Rattle.fibs_c.specs.Records.Texts.{HandsOut, is_set}
 use Rattle.fibs_c.specs.declared.lines.FedLine.{FedLine}
 
 -- the line that was copied, if one ended

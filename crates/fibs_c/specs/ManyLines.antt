@@ -4,11 +4,11 @@ use Rattle.std.specs.List.{AllByRecursion, concat}
 use Rattle.fibs_lines.specs.Lines.{ReadLine, lines_of, kept_limit}
 use Rattle.fibs_lines.specs.LinesValue.{LinesValue, StandsAfter}
 use Rattle.fibs_session.specs.History.Hearing.{line_reading}
-use Rattle.fibs_records.specs.Kinds.{told_kind}
-use Rattle.fibs_records.specs.Texts.{is_set}
+use Rattle.fibs_c.specs.Records.Kinds.{told_kind}
+use Rattle.fibs_c.specs.Records.Texts.{is_set}
 use Rattle.fibs_c.specs.declared.many_lines.Told.{Told}
 use Rattle.fibs_c.specs.declared.many_lines.ToldLine.{ToldLine}
-use Rattle.fibs_records.specs.declared.kinds.LineKind.{LineKind}
+use Rattle.fibs_c.specs.declared.records.kinds.LineKind.{LineKind}
 
 -- the line of a row, whose bytes are in the text
 abbrev pub line_in : List ℕ → ToldLine → ReadLine

@@ -2,10 +2,10 @@
 use Rattle.std.specs.Prelude.{◌≡◌, ◌≢◌, ℕ, ◌≤◌, Option, None, Some}
 use Rattle.fibs_session.specs.Calls.Standing.{ClientValue, StandsAfter}
 use Rattle.fibs_session.specs.History.Machine.{Talk, InputValue, order_refusal, withdraw_refusal, ordered_now}
-use Rattle.fibs_history.specs.declared.refusal.Refusal.{Refusal}
+use Rattle.fibs_session.specs.declared.histories.refusal.Refusal.{Refusal}
 use Rattle.fibs_c.specs.ClientDoor.{DoesUnsaid}
-use Rattle.fibs_records.specs.Statuses.{refusal_status}
-use Rattle.fibs_records.specs.Texts.{flag_of}
+use Rattle.fibs_c.specs.Records.Statuses.{refusal_status}
+use Rattle.fibs_c.specs.Records.Texts.{flag_of}
 
 abbrev pub order_refusal_now : Talk → Option Refusal
 order_refusal_now t = order_refusal t.log

@@ -4,9 +4,9 @@ use Rattle.fibs_commands.specs.PlainFaults.{plain_fault_number}
 use Rattle.fibs_commands.specs.declared.plain.PlainFault.{PlainFault}
 use Rattle.fibs_session.specs.Calls.Standing.{ClientValue, StandsAfter}
 use Rattle.fibs_session.specs.History.Machine.{Talk, is_online, on_wire}
-use Rattle.fibs_typed.specs.Typing.{typed_now, would_take}
-use Rattle.fibs_records.specs.Wires.{Holds, IsEmptied}
-use Rattle.fibs_records.specs.declared.wire.Wire.{Wire}
+use Rattle.fibs_session.specs.Typing.{typed_now, would_take}
+use Rattle.fibs_c.specs.Records.Wires.{Holds, IsEmptied}
+use Rattle.fibs_c.specs.declared.records.wire.Wire.{Wire}
 
 -- why a client does not let a line go as it is, or 0: no connection is open, or the client would take the line itself
 abbrev pub own_refusal : Talk → List ℕ → ℕ

@@ -1,10 +1,10 @@
 -- What C gets of a player in one call.
 use Rattle.std.specs.Prelude.{◌≡◌, ℕ, ◌<◌, ◌≤◌, ◌++◌, List, [], length, take, drop, Option, None, Some, option_map}
 use Rattle.std.specs.Prelude.{nat_le, if◌then◌else◌}
-use Rattle.fibs_directory.specs.Directory.{entry_of}
+use Rattle.fibs_messages.specs.Directory.{entry_of}
 use Rattle.fibs_messages.specs.FieldOf.{field_at}
 use Rattle.fibs_messages.specs.Message.{MessageValue}
-use Rattle.fibs_records.specs.Fields.{ToldField, told_field}
+use Rattle.fibs_c.specs.Records.Fields.{ToldField, told_field}
 use Rattle.fibs_c.specs.declared.player.PartRecord.{PartRecord}
 use Rattle.fibs_c.specs.declared.player.PlayerRecord.{PlayerRecord}
 

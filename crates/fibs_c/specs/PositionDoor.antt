@@ -3,7 +3,7 @@ use Rattle.std.specs.Prelude.{◌≡◌, ℕ, ℤ, ◌+◌, ◌<◌, ◌≤◌, 
 use Rattle.std.specs.Prelude.{length, map, take, drop, Option, None, Some}
 use Rattle.std.specs.Prelude.{if◌then◌else◌}
 use Rattle.std.specs.Ordering.{int_eq}
-use Rattle.fibs_boards.specs.Board.{BoardFields, BoardText}
+use Rattle.fibs_fields.specs.Board.{BoardFields, BoardText}
 use Rattle.fibs_commands.specs.CommandReading.{read_command}
 use Rattle.fibs_commands.specs.Commands.{command_of}
 use Rattle.fibs_position.specs.Allowed.{refusal_of}
@@ -22,10 +22,10 @@ use Rattle.fibs_position.specs.declared.phase.Phase.TheVariants.{Passing}
 use Rattle.fibs_position.specs.declared.position_fault.PositionFault.{PositionFault}
 use Rattle.fibs_rules.specs.Hop.{Hop}
 use Rattle.fibs_c.specs.BoardDoor.{IsWrongBoard}
-use Rattle.fibs_records.specs.Decisions.{IsDecisionAs, move_in, as_move}
-use Rattle.fibs_records.specs.Statuses.{allowed_status}
-use Rattle.fibs_records.specs.Texts.{HandsOut}
-use Rattle.fibs_records.specs.declared.decisions.DecisionRecord.{DecisionRecord}
+use Rattle.fibs_c.specs.Records.Decisions.{IsDecisionAs, move_in, as_move}
+use Rattle.fibs_c.specs.Records.Statuses.{allowed_status}
+use Rattle.fibs_c.specs.Records.Texts.{HandsOut}
+use Rattle.fibs_c.specs.declared.records.decisions.DecisionRecord.{DecisionRecord}
 
 -- the line says a good board, and this is its position
 pub record IsPositionIn (line : List ℕ) (p : PositionValue) : Type 0 where

@@ -3,8 +3,8 @@ use Rattle.std.specs.Prelude.{◌≡◌, ℕ, List, Option, None, Some}
 use Rattle.fibs_fields.specs.Field.{FieldValue}
 use Rattle.fibs_messages.specs.FieldOf.{field_at}
 use Rattle.fibs_messages.specs.Line.{ReadingValue, numbered_line, board_line, text_line, malformed_line}
-use Rattle.fibs_records.specs.Fields.{IsToldField, told_field}
-use Rattle.fibs_records.specs.declared.fields.FieldRecord.{FieldRecord}
+use Rattle.fibs_c.specs.Records.Fields.{IsToldField, told_field}
+use Rattle.fibs_c.specs.declared.records.fields.FieldRecord.{FieldRecord}
 
 -- the field of a number, if it is a message that has one
 abbrev pub field_in : ReadingValue → ℕ → Option FieldValue

@@ -6,13 +6,13 @@ ghost use Rattle.fibs_position.specs.DecisionValue.{roll};
 ghost use Rattle.fibs_session.specs.Calls.Standing.{StandsAfter};
 ghost use Rattle.fibs_session.specs.History.Machine.{Talk, answer_now, shown_now};
 ghost use Rattle.fibs_c.specs.ClientDoor.{IsClientUnfinished, IsReady, IsShownLine, IsShownPrinted, ready_status};
-ghost use Rattle.fibs_records.specs.Statuses.{refusal_status};
-ghost use Rattle.fibs_records.specs.Texts.{HandsOut};
+ghost use Rattle.fibs_c.specs.Records.Statuses.{refusal_status};
+ghost use Rattle.fibs_c.specs.Records.Texts.{HandsOut};
 
+use crate::records::ClientHandle;
+use crate::records::status::{DONE, NO_BOARD, NO_HANDLE, refusal_status};
+use crate::records::text::hand_out;
 use fibs_position::Decision;
-use fibs_records::ClientHandle;
-use fibs_records::status::{DONE, NO_BOARD, NO_HANDLE, refusal_status};
-use fibs_records::text::hand_out;
 use fibs_session::{Client, Refusal};
 use std::alloc::Global;
 

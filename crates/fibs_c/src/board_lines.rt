@@ -1,19 +1,19 @@
 //! The lines of boards that C has as records, and of boards with the sides exchanged.
 
 ghost use Rattle.std.specs.Prelude.{◌≡◌, ◌⊎◌, ◌+◌, ◌<◌, ◌≤◌, ◌++◌, ℕ, pos, negsuc, length, slice_index_or};
-ghost use Rattle.fibs_boards.specs.Board.{field_of};
-ghost use Rattle.fibs_boards.specs.StoredBoard.{fields_of};
+ghost use Rattle.fibs_fields.specs.Board.{field_of};
+ghost use Rattle.fibs_fields.specs.StoredBoard.{fields_of};
 ghost use Rattle.fibs_c.specs.BoardDoor.{IsPrintedBoard};
 ghost use Rattle.fibs_c.specs.BoardLineDoor.{IsBoardLine, IsTurned, board_text, numbers_text};
 ghost use Rattle.fibs_c.specs.BoardLineDoor.{other_field, turned_field};
 
+use crate::records::boards::BoardRecord;
+use crate::records::status::field_fault_status;
+use crate::records::text::hand_out;
 use arrayvec::ArrayVec;
-use fibs_boards::Board;
-use fibs_boards::laws::fields_have_their_ranges;
+use fibs_fields::boards::Board;
+use fibs_fields::boards::laws::fields_have_their_ranges;
 use fibs_messages::Fault;
-use fibs_records::boards::BoardRecord;
-use fibs_records::status::field_fault_status;
-use fibs_records::text::hand_out;
 use itoa::Buffer;
 
 /// The text of a board: 6 bytes, two names of at most 64 and a colon between them, and fifty numbers of at most 11 with

@@ -1,15 +1,15 @@
 //! Boards of lines.
 
 ghost use Rattle.std.specs.Prelude.{◌≡◌};
-ghost use Rattle.fibs_boards.specs.StoredBoard.{fields_of};
+ghost use Rattle.fibs_fields.specs.StoredBoard.{fields_of};
 ghost use Rattle.fibs_c.specs.BoardDoor.{IsBoardRead, IsPrintedBoard, IsOverTold, IsDifferenceTold, ends_match};
 ghost use Rattle.fibs_c.specs.BoardDoor.{is_won};
 
-use fibs_boards::Board;
+use crate::records::boards::{BoardRecord, put_board};
+use crate::records::status::{DONE, field_fault_status};
+use crate::records::text::{flag, hand_out};
+use fibs_fields::boards::Board;
 use fibs_position::differs;
-use fibs_records::boards::{BoardRecord, put_board};
-use fibs_records::status::{DONE, field_fault_status};
-use fibs_records::text::{flag, hand_out};
 
 /// The fields of a line's board; or why the line says none, and its first wrong field, counted from 1.
 #[unsafe(no_mangle)]

@@ -5,20 +5,20 @@ ghost use Rattle.fibs_commands.specs.PlainReading.{read_plain};
 ghost use Rattle.fibs_session.specs.Calls.SessionOf.{handed, refusal_in};
 ghost use Rattle.fibs_session.specs.History.Machine.{wire_of};
 ghost use Rattle.fibs_c.specs.ClientDoor.{IsNewClient, IsOpened, IsDecided, IsPlainSent, IsLost, IsShown, IsWaiting};
-ghost use Rattle.fibs_records.specs.Decisions.{decision_in};
-ghost use Rattle.fibs_records.specs.Statuses.{refusal_status, plain_status};
-ghost use Rattle.fibs_records.specs.Wires.{Holds, IsEmptied};
+ghost use Rattle.fibs_c.specs.Records.Decisions.{decision_in};
+ghost use Rattle.fibs_c.specs.Records.Statuses.{refusal_status, plain_status};
+ghost use Rattle.fibs_c.specs.Records.Wires.{Holds, IsEmptied};
 
-use fibs_commands::read_plain;
-use fibs_records::ClientHandle;
-use fibs_records::boards::{BoardRecord, put_board};
-use fibs_records::decisions::{DecisionRecord, decision_of};
-use fibs_records::outstanding::{OutstandingRecord, put_maybe, put_outstanding};
-use fibs_records::status::{
+use crate::records::ClientHandle;
+use crate::records::boards::{BoardRecord, put_board};
+use crate::records::decisions::{DecisionRecord, decision_of};
+use crate::records::outstanding::{OutstandingRecord, put_maybe, put_outstanding};
+use crate::records::status::{
     DONE, HELD, MEMORY, NO_BOARD, NO_COMMAND, NO_DECISION, NO_HANDLE, NOTHING_WAITS,
     plain_fault_status, plain_refusal_status, refusal_status,
 };
-use fibs_records::wire::{Wire, clear, put_command};
+use crate::records::wire::{Wire, clear, put_command};
+use fibs_commands::read_plain;
 use fibs_session::{Client, CommandText, Login, PlainRefusal, Refusal};
 use std::alloc::Global;
 

@@ -1,20 +1,20 @@
 //! The directory of players.
 
 ghost use Rattle.std.specs.Prelude.{◌≡◌, None, option_map};
-ghost use Rattle.fibs_directory.specs.Directory.View.{player_value};
+ghost use Rattle.fibs_messages.specs.Directory.View.{player_value};
 ghost use Rattle.fibs_messages.specs.FieldOf.{field_at};
 ghost use Rattle.fibs_messages.specs.Line.{reading_of, reading_value};
 ghost use Rattle.fibs_c.specs.DirectoryDoor.{IsNewDirectory, IsNoted, Notes, IsCounted, IsCleared, IsPlayerAt};
 ghost use Rattle.fibs_c.specs.DirectoryDoor.{IsPlayerOf, IsPlayerField};
-ghost use Rattle.fibs_records.specs.Fields.{part_value, told_field};
+ghost use Rattle.fibs_c.specs.Records.Fields.{part_value, told_field};
 
-use fibs_directory::{Directory, Player};
-use fibs_messages::{Reading, read};
-use fibs_records::DirectoryHandle;
-use fibs_records::fields::{FieldPart, FieldRecord, put_field};
-use fibs_records::status::{
+use crate::records::DirectoryHandle;
+use crate::records::fields::{FieldPart, FieldRecord, put_field};
+use crate::records::status::{
     DONE, HELD, MEMORY, NO_FIELD, NO_HANDLE, NO_PLAYER, directory_fault_status,
 };
+use fibs_messages::directory::{Directory, Player};
+use fibs_messages::{Reading, read};
 use std::alloc::Global;
 
 /// Makes a directory of no messages. A handle that holds one stays as it is.

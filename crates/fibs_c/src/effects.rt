@@ -1,18 +1,18 @@
 //! What a decision does to a board.
 
 ghost use Rattle.std.specs.Prelude.{◌∷◌, [], IfOk, IfErr};
-ghost use Rattle.fibs_boards.specs.StoredBoard.{fields_of};
+ghost use Rattle.fibs_fields.specs.StoredBoard.{fields_of};
 ghost use Rattle.fibs_position.specs.BoardEffect.{effect_of};
 ghost use Rattle.fibs_position.specs.DecisionValue.{decision_of as value_of};
-ghost use Rattle.fibs_records.specs.Decisions.{decision_in};
+ghost use Rattle.fibs_c.specs.Records.Decisions.{decision_in};
 ghost use Rattle.fibs_c.specs.EffectDoor.{IsGoodIn, IsAfter, IsEffectTold};
 ghost use Rattle.fibs_c.specs.PositionDoor.{IsNoPosition};
 
-use fibs_boards::Board;
+use crate::records::decisions::{DecisionRecord, decision_of};
+use crate::records::status::{NO_DECISION, NO_EFFECT, field_fault_status, position_fault_status};
+use crate::records::text::hand_out;
+use fibs_fields::boards::Board;
 use fibs_position::{Decision, Position, effect};
-use fibs_records::decisions::{DecisionRecord, decision_of};
-use fibs_records::status::{NO_DECISION, NO_EFFECT, field_fault_status, position_fault_status};
-use fibs_records::text::hand_out;
 
 /// The board of a line, or why it has no position.
 fn good_board_in(line: &[u8]) -> Result<Board, u32>

@@ -4,19 +4,19 @@ ghost use Rattle.std.specs.Prelude.{◌≡◌, ◌≤◌, length, option_map};
 ghost use Rattle.fibs_lines.specs.Lines.{kept_limit};
 ghost use Rattle.fibs_session.specs.Calls.SessionOf.{ask_of, taken_of};
 ghost use Rattle.fibs_session.specs.History.Machine.{wire_of};
-ghost use Rattle.fibs_records.specs.Wires.{Holds};
+ghost use Rattle.fibs_c.specs.Records.Wires.{Holds};
 ghost use Rattle.fibs_position.specs.DecisionValue.{decision_of as value_of};
-ghost use Rattle.fibs_records.specs.Decisions.{IsMaybeDecision};
+ghost use Rattle.fibs_c.specs.Records.Decisions.{IsMaybeDecision};
 ghost use Rattle.fibs_c.specs.FeedDoor.{IsFed, Feeds, TellsLine, decision_of_ask};
 
+use crate::records::ClientHandle;
+use crate::records::decisions::{DecisionRecord, decision_record, of_kind};
+use crate::records::kinds::LineKind;
+use crate::records::status::{DONE, NO_HANDLE, SHORT};
+use crate::records::text::{flag, put};
+use crate::records::wire::{Wire, clear, put_commands};
 use fibs_lines::LIMIT;
 use fibs_position::Decision;
-use fibs_records::ClientHandle;
-use fibs_records::decisions::{DecisionRecord, decision_record, of_kind};
-use fibs_records::kinds::LineKind;
-use fibs_records::status::{DONE, NO_HANDLE, SHORT};
-use fibs_records::text::{flag, put};
-use fibs_records::wire::{Wire, clear, put_commands};
 use fibs_session::{Client, Got, Outstanding, Taken};
 use std::alloc::Global;
 

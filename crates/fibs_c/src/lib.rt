@@ -32,6 +32,7 @@ mod own_line;
 mod player;
 mod positions;
 mod readings;
+mod records;
 
 pub use feeding::Heard;
 pub use lines::FedLine;

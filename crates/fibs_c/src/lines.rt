@@ -4,12 +4,12 @@ ghost use Rattle.std.specs.Prelude.{◌≡◌, ◌≤◌, List, None, ℕ, lengt
 ghost use Rattle.fibs_lines.specs.Lines.{kept_limit, rest_of};
 ghost use Rattle.fibs_lines.specs.LinesValue.{StandsAfter};
 ghost use Rattle.fibs_c.specs.LinesDoor.{FeedsLine, WritesLine, IsFed, IsNewLines, IsReset, IsHeld, IsUnfinished};
-ghost use Rattle.fibs_records.specs.Texts.{HandsOut};
+ghost use Rattle.fibs_c.specs.Records.Texts.{HandsOut};
 
+use crate::records::LinesHandle;
+use crate::records::status::{DONE, HELD, MEMORY, NO_HANDLE, SHORT};
+use crate::records::text::{flag, hand_out, put};
 use fibs_lines::{LIMIT, Lines, laws};
-use fibs_records::LinesHandle;
-use fibs_records::status::{DONE, HELD, MEMORY, NO_HANDLE, SHORT};
-use fibs_records::text::{flag, hand_out, put};
 use std::alloc::Global;
 
 /// What was read of a piece.

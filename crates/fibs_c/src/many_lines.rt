@@ -6,15 +6,15 @@ ghost use Rattle.fibs_lines.specs.LinesValue.{LinesValue};
 ghost use Rattle.fibs_session.specs.History.Hearing.{line_reading};
 ghost use Rattle.fibs_c.specs.ManyLines.{AreLinesRead, ReadsLines};
 ghost use Rattle.fibs_c.specs.ReadingOn.{HasMore, HasEnded, ReadSoFar};
-ghost use Rattle.fibs_records.specs.Texts.{is_set};
-ghost use Rattle.fibs_records.specs.Kinds.{told_kind};
+ghost use Rattle.fibs_c.specs.Records.Texts.{is_set};
+ghost use Rattle.fibs_c.specs.Records.Kinds.{told_kind};
 
 use crate::lines::{FedLine, feed};
-use fibs_history::read_line;
+use crate::records::LinesHandle;
+use crate::records::kinds::LineKind;
+use crate::records::status::{DONE, NO_HANDLE, SHORT};
 use fibs_lines::{LIMIT, Line, Lines};
-use fibs_records::LinesHandle;
-use fibs_records::kinds::LineKind;
-use fibs_records::status::{DONE, NO_HANDLE, SHORT};
+use fibs_session::histories::read_line;
 use std::alloc::Global;
 
 /// A line among many.

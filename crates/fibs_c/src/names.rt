@@ -1,10 +1,10 @@
 //! The names of statuses.
 
-ghost use Rattle.fibs_records.specs.Statuses.{status_name};
-ghost use Rattle.fibs_records.specs.Texts.{IsNamed};
+ghost use Rattle.fibs_c.specs.Records.Statuses.{status_name};
+ghost use Rattle.fibs_c.specs.Records.Texts.{IsNamed};
 
-use fibs_records::status::{NO_STATUS, status_name};
-use fibs_records::text::hand_out;
+use crate::records::status::{NO_STATUS, status_name};
+use crate::records::text::hand_out;
 
 /// The name of a status, as the program prints it.
 #[unsafe(no_mangle)]

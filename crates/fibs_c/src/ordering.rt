@@ -4,11 +4,11 @@ ghost use Rattle.std.specs.Prelude.{◌≡◌};
 ghost use Rattle.std.specs.Result.{result_err};
 ghost use Rattle.fibs_session.specs.History.Machine.{Order, Withdraw};
 ghost use Rattle.fibs_c.specs.OrderDoor.{IsDone, IsOrderTold, order_refusal_now, withdraw_refusal_now};
-ghost use Rattle.fibs_records.specs.Statuses.{refusal_status};
+ghost use Rattle.fibs_c.specs.Records.Statuses.{refusal_status};
 
-use fibs_records::ClientHandle;
-use fibs_records::status::{DONE, NO_HANDLE, refusal_status};
-use fibs_records::text::flag;
+use crate::records::ClientHandle;
+use crate::records::status::{DONE, NO_HANDLE, refusal_status};
+use crate::records::text::flag;
 use fibs_session::Refusal;
 use std::alloc::Global;
 

@@ -6,14 +6,14 @@ ghost use Rattle.fibs_commands.specs.PlainCommands.{text_fault};
 ghost use Rattle.fibs_session.specs.Calls.Standing.{StandsAfter};
 ghost use Rattle.fibs_session.specs.History.Machine.{Talk, is_online, on_wire};
 ghost use Rattle.fibs_c.specs.OwnLineDoor.{IsOwnSent, own_refusal};
-ghost use Rattle.fibs_records.specs.Wires.{Holds, IsEmptied};
+ghost use Rattle.fibs_c.specs.Records.Wires.{Holds, IsEmptied};
 
+use crate::records::ClientHandle;
+use crate::records::status::{DONE, NO_HANDLE, TAKEN, plain_fault_status, refusal_status};
+use crate::records::wire::{Wire, clear, put_line};
 use fibs_commands::{PlainFault, plain_text};
-use fibs_records::ClientHandle;
-use fibs_records::status::{DONE, NO_HANDLE, TAKEN, plain_fault_status, refusal_status};
-use fibs_records::wire::{Wire, clear, put_line};
+use fibs_session::typed::taking::would_take;
 use fibs_session::{Client, Plain, Refusal};
-use fibs_typed::taking::would_take;
 use std::alloc::Global;
 
 /// What is wrong with the text of a line.

@@ -1,13 +1,13 @@
 //! A player in one call.
 
 ghost use Rattle.std.specs.Prelude.{◌≡◌, ◌≤◌, ◌+◌, ◌++◌, ℕ, length, take, drop, option_map};
-ghost use Rattle.fibs_directory.specs.Directory.View.{player_value};
+ghost use Rattle.fibs_messages.specs.Directory.View.{player_value};
 ghost use Rattle.fibs_c.specs.PlayerDoor.{IsPlayerTold, IsMaybePlayer, TellsPlayer, IsPlayer, texts_in, capped};
 
-use fibs_directory::Player;
-use fibs_records::DirectoryHandle;
-use fibs_records::status::{DONE, NO_HANDLE, NO_PLAYER, SHORT};
-use fibs_records::text::flag;
+use crate::records::DirectoryHandle;
+use crate::records::status::{DONE, NO_HANDLE, NO_PLAYER, SHORT};
+use crate::records::text::flag;
+use fibs_messages::directory::Player;
 use std::alloc::Global;
 
 /// Where a text of a player is in the room.

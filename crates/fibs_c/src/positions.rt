@@ -5,20 +5,20 @@ ghost use Rattle.fibs_commands.specs.CommandReading.{read_command};
 ghost use Rattle.fibs_position.specs.DecisionValue.{decision_of as value_of};
 ghost use Rattle.fibs_position.specs.PositionValue.{position_value};
 ghost use Rattle.fibs_rules.specs.PlayValue.{hops_of};
-ghost use Rattle.fibs_records.specs.Decisions.{decision_in, as_move, move_in};
+ghost use Rattle.fibs_c.specs.Records.Decisions.{decision_in, as_move, move_in};
 ghost use Rattle.fibs_c.specs.PositionDoor.{IsPositionIn, IsNoPosition, IsPhaseTold, IsAllowedTold, phase_number};
 ghost use Rattle.fibs_c.specs.PositionDoor.{ArePlaysTold, HandsOutPlays, direction_in, IsTextTold};
 ghost use Rattle.fibs_c.specs.PositionDoor.{IsDecisionRead, IsDecisionReadIn};
 
-use fibs_boards::Board;
-use fibs_commands::{decision_text, read_command};
-use fibs_position::{Decision, Direction, Phase, Play, Position};
-use fibs_records::decisions::{DecisionRecord, decision_of, decision_record, play_record};
-use fibs_records::status::{
+use crate::records::decisions::{DecisionRecord, decision_of, decision_record, play_record};
+use crate::records::status::{
     DONE, MEMORY, NO_COMMAND, NO_DECISION, NO_DIRECTION, SHORT, disallowed_status,
     field_fault_status, position_fault_status,
 };
-use fibs_records::text::hand_out;
+use crate::records::text::hand_out;
+use fibs_commands::{decision_text, read_command};
+use fibs_fields::boards::Board;
+use fibs_position::{Decision, Direction, Phase, Play, Position};
 use std::alloc::Global;
 
 /// The position of a line, or why it has none.

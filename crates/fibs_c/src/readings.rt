@@ -4,12 +4,12 @@ ghost use Rattle.std.specs.Prelude.{◌≡◌, option_map};
 ghost use Rattle.fibs_messages.specs.Line.{reading_of, reading_value};
 ghost use Rattle.fibs_messages.specs.FieldOf.{value_of};
 ghost use Rattle.fibs_c.specs.ReadingsDoor.{field_in, IsFieldTold};
-ghost use Rattle.fibs_records.specs.Kinds.{told_kind};
+ghost use Rattle.fibs_c.specs.Records.Kinds.{told_kind};
 
+use crate::records::fields::{FieldPart, FieldRecord, put_field};
+use crate::records::kinds::LineKind;
+use crate::records::status::NO_FIELD;
 use fibs_messages::{Field, Reading, read};
-use fibs_records::fields::{FieldPart, FieldRecord, put_field};
-use fibs_records::kinds::LineKind;
-use fibs_records::status::NO_FIELD;
 
 /// What a line is that was not cut. A line that was cut is a text.
 #[unsafe(no_mangle)]

@@ -1,1 +1,4 @@
 pub mod ProgramLemmas
+mod LogLemmas
+mod ReplayLemmas
+mod TellingLemmas

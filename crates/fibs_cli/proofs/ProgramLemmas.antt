@@ -4,23 +4,23 @@ use Rattle.std.proofs.Common.{Some, None, MatchResult, refl, sym, subst, inl, ar
 use Rattle.std.proofs.KnownBytes.{Keeps-refl}
 use Rattle.std.specs.Borrow.{Bor}
 use Rattle.std.specs.Io.KnownBytes.{Appends, Keeps, IsAtEnd}
-use Rattle.fibs_boards.specs.Board.{BoardFields}
+use Rattle.fibs_fields.specs.Board.{BoardFields}
 use Rattle.fibs_show.specs.Plays.{PlaysText}
 use Rattle.fibs_cli.specs.Program.{Streams, Showed, ShowedObjects, Listed, Played, PlayedWord, RanScript}
 use Rattle.fibs_cli.specs.Program.{ListedObject, ListedWord, PlayedScript, RanObjects, Served}
 use Rattle.fibs_engine.specs.Printing.{Printed, line_bytes}
-use Rattle.fibs_scripts.specs.Output.{LoggedInPart, Replayed, ReplayFailed, ReplayedInPart}
-use Rattle.fibs_scripts.specs.Scripts.{script_limit}
+use Rattle.fibs_replay.specs.Output.{LoggedInPart, Replayed, ReplayFailed, ReplayedInPart}
+use Rattle.fibs_replay.specs.Scripts.{script_limit}
 use Rattle.fibs_engine.specs.Reads.{LostAtMost}
 use Rattle.fibs_show.specs.Show.{WroteAll, WroteRead, WroteLines, WroteFront}
 use Rattle.fibs_json.specs.Plays.{PlaysObject}
 use Rattle.fibs_json.specs.Told.{SaysLine}
 use Rattle.fibs_json.specs.Streams as objects
-use Rattle.fibs_objects.specs.Replayed.{ObjectsFailed, ObjectsInPart, ReplayedObjects}
+use Rattle.fibs_cli.specs.Replayed.{ObjectsFailed, ObjectsInPart, ReplayedObjects}
 use Rattle.fibs_engine.specs.Writing.{GainedFront}
-use Rattle.fibs_arguments.specs.declared.arguments.Request.{Request}
-use Rattle.fibs_arguments.specs.declared.arguments.Request.TheVariants.{Show, ShowJson, Plays, PlaysJson}
-use Rattle.fibs_arguments.specs.declared.arguments.Request.TheVariants.{Replay, ReplayJson, Loop}
+use Rattle.fibs_cli.specs.declared.arguments.Request.{Request}
+use Rattle.fibs_cli.specs.declared.arguments.Request.TheVariants.{Show, ShowJson, Plays, PlaysJson}
+use Rattle.fibs_cli.specs.declared.arguments.Request.TheVariants.{Replay, ReplayJson, Loop}
 use Rattle.fibs_engine.specs.declared.fault.EngineFault.{EngineFault}
 use Rattle.fibs_engine.specs.declared.fault.EngineFault.TheVariants.{Device, Memory}
 

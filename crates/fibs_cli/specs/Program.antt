@@ -2,23 +2,23 @@
 use Rattle.std.specs.Prelude.{◌≡◌, ◌⊎◌, ◌++◌, ◌∷◌, [], ℕ, List, Option, Result, Ok, Err}
 use Rattle.std.specs.Io.KnownBytes.{Appends, Keeps, IsAtEnd}
 use Rattle.std.specs.Prelude.{string_bytes, codes}
-use Rattle.fibs_boards.specs.Board.{BoardFields}
+use Rattle.fibs_fields.specs.Board.{BoardFields}
 use Rattle.fibs_messages.specs.Line.{ReadingValue, board_line, IsReading}
 use Rattle.fibs_position.specs.GoodBoard.{IsGood}
 use Rattle.fibs_show.specs.Plays.{PlaysText, Refusal}
-use Rattle.fibs_scripts.specs.Output.{LoggedInPart, Replayed, ReplayFailed, ReplayedInPart}
+use Rattle.fibs_replay.specs.Output.{LoggedInPart, Replayed, ReplayFailed, ReplayedInPart}
 use Rattle.fibs_show.specs.Show.{WroteAll, WroteRead, WroteLines, WroteFront}
 use Rattle.fibs_json.specs.Plays.{PlaysObject}
 use Rattle.fibs_json.specs.Told.{SaysLine}
 use Rattle.fibs_json.specs.Streams as objects
-use Rattle.fibs_objects.specs.Replayed.{ObjectsFailed, ObjectsInPart, ReplayedObjects}
+use Rattle.fibs_cli.specs.Replayed.{ObjectsFailed, ObjectsInPart, ReplayedObjects}
 use Rattle.fibs_engine.specs.Printing.{Printed, line_bytes}
 use Rattle.fibs_engine.specs.Writing.{GainedFront}
-use Rattle.fibs_arguments.specs.declared.arguments.Answer.{Answer}
-use Rattle.fibs_arguments.specs.declared.arguments.Answer.TheVariants.{Engine, Help, Refused, Memory}
-use Rattle.fibs_arguments.specs.declared.arguments.Request.{Request}
-use Rattle.fibs_arguments.specs.declared.arguments.Request.TheVariants.{Show, ShowJson, Plays, PlaysJson}
-use Rattle.fibs_arguments.specs.declared.arguments.Request.TheVariants.{Replay, ReplayJson, Loop}
+use Rattle.fibs_cli.specs.declared.arguments.Answer.{Answer}
+use Rattle.fibs_cli.specs.declared.arguments.Answer.TheVariants.{Engine, Help, Refused, Memory}
+use Rattle.fibs_cli.specs.declared.arguments.Request.{Request}
+use Rattle.fibs_cli.specs.declared.arguments.Request.TheVariants.{Show, ShowJson, Plays, PlaysJson}
+use Rattle.fibs_cli.specs.declared.arguments.Request.TheVariants.{Replay, ReplayJson, Loop}
 use Rattle.fibs_engine.specs.declared.fault.EngineFault.{EngineFault}
 use Rattle.fibs_engine.specs.declared.fault.EngineFault.TheVariants as fault
 

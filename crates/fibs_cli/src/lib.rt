@@ -2,13 +2,15 @@
 //! with a command line.
 #![tactic(auto)]
 
+pub mod arguments;
+pub mod objects;
 pub mod program;
 
 pub use fibs_connect::converse;
+pub use fibs_connect::turns::{Ending, ExchangeFault, exchange};
 pub use fibs_engine::dial::READ_MILLIS;
 pub use fibs_engine::fault::EngineFault;
 pub use fibs_engine::link::Link;
-pub use fibs_exchange::{Ending, ExchangeFault, exchange};
 pub use fibs_json::told::told_line;
 pub use fibs_replay::play_loop::play_loop;
 pub use fibs_replay::replay;

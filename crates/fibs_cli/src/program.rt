@@ -4,14 +4,14 @@ ghost use Rattle.fibs_cli.specs.Program.{Answered, PlayedScript, SaysWhy, Served
 ghost use Rattle.fibs_engine.specs.Printing.{Printed};
 ghost use Rattle.fibs_engine.specs.Status.{code_of};
 
-use fibs_arguments::{Answer, Request};
+use crate::arguments::{Answer, Request};
+use crate::objects::replay::replay_json;
 use fibs_engine::fault::EngineFault;
 use fibs_engine::status::Status;
 use fibs_engine::writing::write_bytes;
 use fibs_json::plays::plays_json;
 use fibs_json::show::show_json;
 use fibs_json::told::told_line;
-use fibs_objects::replay::replay_json;
 use fibs_replay::play_loop::play_loop;
 use fibs_replay::replay;
 use fibs_show::plays::plays;

@@ -13,7 +13,7 @@ use Rattle.fibs_position.specs.declared.stake.Stake.TheVariants.{Normal, Gammon,
 use Rattle.fibs_commands.specs.Commands.{step_text, steps_text, stake_text, command_of}
 use Rattle.fibs_commands.specs.CommandLaws.{CommandsTellDecisions, CommandsAreShort, CommandsArePrinted}
 use Rattle.fibs_commands.specs.CommandLaws.{PlainInBothDirections}
-use Rattle.fibs_boards.specs.Printed.{IsPrinted}
+use Rattle.fibs_fields.specs.Printed.{IsPrinted}
 use Rattle.fibs_commands.proofs.StepLemmas.{IsStepByte, step_bytes, step_short, steps_injective}
 
 -- the steps' text is printed

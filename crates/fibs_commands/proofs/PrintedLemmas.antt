@@ -13,7 +13,7 @@ use Rattle.std.proofs.lemmas.Str.Ascii.{IsAscii-from_all}
 use Rattle.fibs_fields.specs.Name.{is_name, is_name_byte}
 use Rattle.fibs_commands.specs.Logins.{is_password_byte}
 use Rattle.fibs_commands.specs.PlainCommands.{is_text_byte}
-use Rattle.fibs_boards.specs.Printed.{IsPrinted}
+use Rattle.fibs_fields.specs.Printed.{IsPrinted}
 
 -- a byte of a text is printed
 byte_from_text : (b : ℕ) → is_text_byte b ≡ true → IsPrinted b

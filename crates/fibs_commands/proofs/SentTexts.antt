@@ -12,7 +12,7 @@ use Rattle.std.proofs.lemmas.List.Elements.{All-append, All-cons, All-weaker, Al
 use Rattle.fibs_lines.specs.Lines.{login_prompt, command_prompt}
 use Rattle.fibs_lines.specs.StreamLaws.{IsSendable, EmptyStreamHasNoLine, SendableTextIsItsLine}
 use Rattle.fibs_fields.specs.Name.{is_name}
-use Rattle.fibs_boards.specs.Printed.{IsPrinted}
+use Rattle.fibs_fields.specs.Printed.{IsPrinted}
 use Rattle.fibs_position.specs.DecisionValue.{roll, double, accept, reject, move, resign}
 use Rattle.fibs_commands.specs.Commands.{command_of, stake_text, steps_text}
 use Rattle.fibs_commands.specs.FirstCommands.{style_text, autoboard_text, moreboards_text, board_text}

@@ -1,1 +1,4 @@
 pub mod ConverseLemmas
+pub mod TurnLemmas
+pub mod TypedLemmas
+pub mod FirstLineLemmas

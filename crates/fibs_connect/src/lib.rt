@@ -1,32 +1,50 @@
 //! `fibs connect`: a player's conversation with the server. Typed lines, connections, and the seat of a player.
+//!
+//! Front ends, to which what happens is reported.
+//!
+//! Each says what a typed line asks for. The plain account is one. How typed lines are read, and that the server may
+//! speak between two of them, is in a folder of its own.
 #![tactic(auto)]
 
 ghost use Rattle.std.specs.Prelude.{◌≡◌, ◌*◌, IfOk, IfErr};
 ghost use Rattle.std.specs.Io.KnownBytes.{Appends};
 ghost use Rattle.fibs_connect.specs.Converse.Ending.{Conversed, ConversedOver, EndsWell, login_fault_line};
-ghost use Rattle.fibs_front.specs.TypedReads.{SpendsReads};
+ghost use Rattle.fibs_connect.specs.TypedReads.{SpendsReads};
 ghost use Rattle.fibs_engine.specs.Printing.{line_bytes};
 ghost use Rattle.fibs_engine.specs.Reads.{LostAtMost};
 
+pub mod fault;
+pub mod front;
+mod heard;
+pub mod laws;
+pub mod plain;
 mod players;
+pub mod printing;
+pub mod said;
 mod seat;
+pub mod turns;
+mod typed;
+pub mod waiting;
+pub mod wish;
+pub mod words;
 
+use crate::typed_line::TypedLine;
+use crate::typed_lines::{Next, TypedLines};
+use crate::watch::{Unwatched, Watch};
 use fibs_engine::dial::{Dial, Place, READ_MILLIS, Server};
 use fibs_engine::fault::EngineFault;
 use fibs_engine::limits::{MOST_INPUT_READS, READ_PORTION};
 use fibs_engine::status::Status;
-use fibs_front::plain::Plain;
-use fibs_front::printing::print_reason;
-use fibs_front::typed_line::TypedLine;
-use fibs_front::typed_lines::{Next, TypedLines};
-use fibs_front::watch::{Unwatched, Watch};
-use fibs_front::words::Words;
 use fibs_session::{Login, PlainFault};
+use plain::Plain;
+use printing::print_reason;
 use seat::{Going, Seat};
 use std::alloc::Global;
 use std::io::{Read, Write};
 use std::net::{Net, TcpStream};
 use std::time::Duration;
+pub use typed::{typed_line, typed_lines, watch};
+use words::Words;
 
 /// Talks with a server for a player.
 ///

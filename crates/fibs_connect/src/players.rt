@@ -2,9 +2,9 @@
 ghost use Rattle.std.specs.Prelude.{OnOk};
 ghost use Rattle.fibs_connect.specs.Converse.Players.{players_told};
 
-use fibs_exchange::ExchangeFault;
-use fibs_front::front::Front;
-use fibs_front::said::Said;
+use crate::front::Front;
+use crate::said::Said;
+use crate::turns::ExchangeFault;
 use fibs_session::Directory;
 
 /// Reports each player of the directory, in its order.

@@ -1,23 +1,23 @@
 //! A player's seat: the client, the players that it knows, and the connection, if there is one.
 ghost use Rattle.std.specs.Prelude.{◌≡◌, ◌≤◌, ◌∷◌, [], Some, length, true, false, IfOk, OnOk, IsSome};
-ghost use Rattle.fibs_directory.specs.Directory.{IsDirectory};
-ghost use Rattle.fibs_exchange.specs.Turns.Turn.{FitsStream, bytes_of, is_there};
+ghost use Rattle.fibs_messages.specs.Directory.{IsDirectory};
+ghost use Rattle.fibs_connect.specs.Turns.Turn.{FitsStream, bytes_of, is_there};
 ghost use Rattle.fibs_connect.specs.Converse.Seats.{Answered, Connects, Opens, OpensAndLoses};
 ghost use Rattle.fibs_connect.specs.Converse.Seats.{Passes, PassesOn, Refuses};
 ghost use Rattle.fibs_connect.specs.Converse.Seats.{TakesTurn, seat_of};
-ghost use Rattle.fibs_front.specs.Told.{opened_said};
-ghost use Rattle.fibs_front.specs.Wishes.{wish_value};
+ghost use Rattle.fibs_connect.specs.Told.{opened_said};
+ghost use Rattle.fibs_connect.specs.Wishes.{wish_value};
 
+use crate::front::Front;
 use crate::players::tell_players;
+use crate::said::Said;
+use crate::turns::loss::end_connection;
+use crate::turns::sending::{send_as_it_is, send_command};
+use crate::turns::{Ending, ExchangeFault, talk, talk_offline};
+use crate::typed_line::TYPED_LIMIT;
+use crate::wish::Wish;
 use fibs_engine::dial::Dial;
 use fibs_engine::link::Link;
-use fibs_exchange::loss::end_connection;
-use fibs_exchange::sending::{send_as_it_is, send_command};
-use fibs_exchange::{Ending, ExchangeFault, talk, talk_offline};
-use fibs_front::front::Front;
-use fibs_front::said::Said;
-use fibs_front::typed_line::TYPED_LIMIT;
-use fibs_front::wish::Wish;
 use fibs_session::{Client, Directory, Login, Refusal};
 use std::alloc::Global;
 

@@ -1,7 +1,7 @@
 -- What is printed for what a line says.
 use Rattle.std.specs.Prelude.{ℕ, List, ◌∷◌, ◌++◌, codes}
 use Rattle.std.specs.Fmt.{decimal}
-use Rattle.fibs_boards.specs.Board.{spelling}
+use Rattle.fibs_fields.specs.Board.{spelling}
 use Rattle.fibs_messages.specs.Line.{ReadingValue, numbered_line, board_line, text_line, malformed_line}
 use Rattle.fibs_messages.specs.Message.{canonical}
 use Rattle.fibs_fields.specs.Faults.{fault_name}

@@ -2,6 +2,7 @@
 //! and how a number and a byte are written.
 #![tactic(auto)]
 
+pub mod boards;
 pub mod dash;
 pub mod decimal;
 pub mod fault;

@@ -10,11 +10,11 @@ use Rattle.std.proofs.Math.Nat.{mul-le-mul_left}
 use Rattle.fibs_engine.proofs.EscapeLemmas.{flat_map-append}
 use Rattle.fibs_lines.specs.Lines.{ReadLine}
 use Rattle.fibs_fields.specs.Field.{FieldValue}
-use Rattle.fibs_boards.specs.Board.{BoardFields}
+use Rattle.fibs_fields.specs.Board.{BoardFields}
 use Rattle.fibs_messages.specs.Line.{IsReading, ReadingValue, board_line, reading_of}
 use Rattle.fibs_messages.specs.declared.line.Reading.{Reading}
 use Rattle.fibs_messages.specs.declared.line.Reading.TheVariants as R
-use Rattle.fibs_boards.specs.declared.board.Board.{Board}
+use Rattle.fibs_fields.specs.declared.boards.board.Board.{Board}
 use Rattle.fibs_messages.specs.Message.{MessageValue}
 use Rattle.fibs_position.specs.GoodBoard.{IsGood}
 use Rattle.fibs_position.specs.Phases.{InPhase}

@@ -9,7 +9,7 @@ use Rattle.std.specs.List.{list_any}
 use Rattle.fibs_fields.proofs.FieldLemmas.Splits.{before-behind, behind, cut_off, has_no}
 use Rattle.fibs_fields.specs.Split.{after, before, seen}
 use Rattle.std.specs.Option.{is_some}
-use Rattle.fibs_boards.specs.Board.{BoardFields}
+use Rattle.fibs_fields.specs.Board.{BoardFields}
 use Rattle.fibs_messages.specs.Line.{board_line}
 use Rattle.fibs_json.specs.Boards.{board_members}
 use Rattle.fibs_json.specs.Parts.{BeginsWith, front}

@@ -1,7 +1,7 @@
 -- What `fibs plays --json` prints for the word that it is given.
 use Rattle.std.specs.Prelude.{◌≡◌, ◌⊎◌, ℕ, List, [], ◌∷◌, ◌++◌, codes}
 use Rattle.std.specs.Fmt.{decimal}
-use Rattle.fibs_boards.specs.Board.{BoardFields}
+use Rattle.fibs_fields.specs.Board.{BoardFields}
 use Rattle.fibs_commands.specs.Commands.{command_of}
 use Rattle.fibs_messages.specs.Line.{ReadingValue, IsReading, board_line}
 use Rattle.fibs_position.specs.DecisionValue.{move}

@@ -1,7 +1,7 @@
 -- Which line a word of the command line says: a board's line, or the object of one, which goes in again.
 use Rattle.std.specs.Prelude.{◌≡◌, ◌↔◌, ◌⊎◌, ◌==◌, ℕ, Bool, false, List, [], ◌∷◌, codes}
 use Rattle.std.specs.List.{list_any}
-use Rattle.fibs_boards.specs.Board.{BoardFields}
+use Rattle.fibs_fields.specs.Board.{BoardFields}
 use Rattle.fibs_messages.specs.Line.{board_line}
 use Rattle.fibs_json.specs.Json.{is_escaped}
 use Rattle.fibs_json.specs.Lines.{ReadObject, object_with}

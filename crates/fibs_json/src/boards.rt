@@ -1,7 +1,7 @@
 //! Boards as members.
 ghost use Rattle.std.specs.Prelude.{◌≡◌, ◌≤◌, ◌++◌, List, OnOk, codes};
-ghost use Rattle.fibs_boards.specs.Board.{field_of};
-ghost use Rattle.fibs_boards.specs.StoredBoard.{fields_of};
+ghost use Rattle.fibs_fields.specs.Board.{field_of};
+ghost use Rattle.fibs_fields.specs.StoredBoard.{fields_of};
 ghost use Rattle.fibs_position.specs.Names.{phase_name};
 ghost use Rattle.fibs_position.specs.OwnView.{turn, colour};
 ghost use Rattle.fibs_position.specs.Phases.{InPhase};
@@ -17,7 +17,7 @@ use crate::members::{
 };
 use crate::side::Side;
 use arrayvec::ArrayVec;
-use fibs_boards::Board;
+use fibs_fields::boards::Board;
 use fibs_position::{Phase, Position, PositionFault};
 use std::alloc::AllocError;
 

@@ -1,6 +1,6 @@
 //! One JSON object for each line of the server.
 ghost use Rattle.std.specs.Prelude.{◌≡◌, ◌++◌, [], ℕ, List, OnOk, codes};
-ghost use Rattle.fibs_boards.specs.StoredBoard.{fields_of};
+ghost use Rattle.fibs_fields.specs.StoredBoard.{fields_of};
 ghost use Rattle.fibs_lines.specs.Lines.{value_of};
 ghost use Rattle.fibs_messages.specs.Line.{IsReading, ReadingValue, board_line, reading_of};
 ghost use Rattle.fibs_messages.specs.Message.{message_of};
@@ -13,7 +13,7 @@ use crate::boards::append_board;
 use crate::fields::append_message;
 use crate::members::{append_string, append_whole};
 use crate::strings::append_quoted;
-use fibs_boards::Board;
+use fibs_fields::boards::Board;
 use fibs_lines::Line;
 use fibs_messages::{Fault, Message, Reading, read};
 use std::alloc::AllocError;

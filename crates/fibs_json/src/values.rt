@@ -1,7 +1,7 @@
 //! Members of any value, and members that are objects.
 ghost use Rattle.std.specs.Prelude.{◌≡◌, ◌++◌, ℕ, List, OnOk};
-ghost use Rattle.fibs_boards.specs.Board.{spelling};
-ghost use Rattle.fibs_boards.specs.StoredBoard.{fields_of};
+ghost use Rattle.fibs_fields.specs.Board.{spelling};
+ghost use Rattle.fibs_fields.specs.StoredBoard.{fields_of};
 ghost use Rattle.fibs_messages.specs.Line.{board_line};
 ghost use Rattle.fibs_json.specs.Json.{member, more_member, more_value};
 ghost use Rattle.fibs_json.specs.Lines.{ReadObject};
@@ -11,7 +11,7 @@ use crate::line::append_board_line;
 use crate::members::{
     append_hundredths, append_key, append_null, append_string, append_truth, append_whole,
 };
-use fibs_boards::Board;
+use fibs_fields::boards::Board;
 use std::alloc::AllocError;
 
 /// A value of a member.

@@ -1,4 +1,4 @@
--- What a caller reads: messages, and whole lines. Fields and boards are those of fibs_fields and fibs_boards.
+-- What a caller reads: messages, and whole lines. Fields and boards are those of fibs_fields.
 pub mod Message
 pub mod FieldOf
 pub mod Flags
@@ -8,3 +8,4 @@ pub mod Bits
 pub mod LineReading
 pub mod Rated
 pub mod Settings
+pub mod Directory

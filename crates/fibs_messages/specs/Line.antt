@@ -2,9 +2,9 @@
 use Rattle.std.specs.Prelude.{◌≡◌, ◌==◌, ◌⊎◌, List, [], ◌∷◌, ℕ, ℤ, pos, Option, Some, None, Result, Ok, Err, codes}
 use Rattle.std.specs.Prelude.{Bool, true, if◌then◌else◌}
 use Rattle.std.specs.List.{starts_with}
-use Rattle.fibs_boards.specs.Board.{BoardFields, BoardText, Wrong, field_values, kinds, pieces}
+use Rattle.fibs_fields.specs.Board.{BoardFields, BoardText, Wrong, field_values, kinds, pieces}
 use Rattle.fibs_fields.specs.Spaces.{without_spaces}
-use Rattle.fibs_boards.specs.BoardReading.{first_fault}
+use Rattle.fibs_fields.specs.BoardReading.{first_fault}
 use Rattle.fibs_fields.specs.Decimal.{number_in}
 use Rattle.fibs_fields.specs.Field.{FieldValue}
 use Rattle.fibs_fields.specs.FieldReading.{fields_at, left}
@@ -14,7 +14,7 @@ use Rattle.fibs_fields.specs.Split.{before, after}
 use Rattle.fibs_fields.specs.declared.fault.FieldFault.{FieldFault}
 use Rattle.fibs_fields.specs.declared.fault.Fault.{Fault}
 use Rattle.fibs_fields.specs.declared.values.Values.{Values}
-use Rattle.fibs_boards.specs.StoredBoard.{fields_of}
+use Rattle.fibs_fields.specs.StoredBoard.{fields_of}
 use Rattle.fibs_messages.specs.declared.line.Reading.{Reading}
 use Rattle.fibs_messages.specs.declared.line.Reading.TheVariants.{Numbered, Board, Text, Malformed}
 

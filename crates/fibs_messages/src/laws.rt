@@ -1,7 +1,7 @@
-//! Laws of messages and their lines. Those of fields and of boards are in fibs_fields and fibs_boards.
+//! Laws of messages and their lines. Those of fields and of boards are in fibs_fields.
 
 ghost use Rattle.std.specs.Prelude.{◌<◌, ◌≤◌, ◌≡◌, ◌↔◌, ◌⊎◌, ℕ, List, IsTrue, All, length, map};
-ghost use Rattle.fibs_boards.specs.Board.{BoardFields, IsBoard, spelling};
+ghost use Rattle.fibs_fields.specs.Board.{BoardFields, IsBoard, spelling};
 ghost use Rattle.fibs_messages.specs.Bits.{HasBits};
 ghost use Rattle.fibs_fields.specs.Decimal.{numbers_of_32_bits, numbers_of_64_bits};
 ghost use Rattle.fibs_fields.specs.Field.{kind_of};
@@ -12,12 +12,12 @@ ghost use Rattle.fibs_messages.specs.Message.{HasNumber, IsMessage, IsNumber, Is
 ghost use Rattle.fibs_messages.specs.Message.{WrongMessage, canonical, kinds_of, message_of, own_info_fields};
 ghost use Rattle.fibs_messages.specs.Message.{who_info_fields};
 ghost use Rattle.fibs_messages.specs.declared.message.Message.{Message};
-ghost use Rattle.fibs_boards.specs.Printed.{IsPrinted};
+ghost use Rattle.fibs_fields.specs.Printed.{IsPrinted};
 ghost use Rattle.fibs_messages.specs.declared.message.OwnInfo.{OwnInfo};
 
 use crate::line::{Reading, read};
 use crate::message::{Message, OwnInfo, WhoInfo};
-pub use fibs_boards::laws::{
+pub use fibs_fields::boards::laws::{
     boards_are_valid, each_line_is_one_board_or_wrong, fields_have_their_ranges,
     fields_tell_boards, is_board_is_exact, lines_of_boards_are_their_spellings, print_reads_back,
     prints_tell_boards, spellings_tell_boards,

@@ -2,6 +2,7 @@
 //! printed.
 #![tactic(auto)]
 
+pub mod directory;
 mod field;
 pub mod laws;
 mod line;
@@ -10,7 +11,7 @@ pub mod number;
 mod print;
 mod reader;
 
-pub use fibs_boards::Board;
+pub use fibs_fields::boards::Board;
 pub use fibs_fields::decimal::read_decimal;
 pub use fibs_fields::fault::{Fault, FieldFault};
 pub use fibs_fields::name::Name;

@@ -1,7 +1,7 @@
 //! Lines of the server.
 
 ghost use Rattle.std.specs.Prelude.{◌≡◌, ◌↔◌, ℕ, List, Some, IfSome};
-ghost use Rattle.fibs_boards.specs.Board.{BoardFields, BoardText};
+ghost use Rattle.fibs_fields.specs.Board.{BoardFields, BoardText};
 ghost use Rattle.fibs_messages.specs.Line.{IsBoardLine, IsMalformed, IsText, ReadingValue, numbered_line, board_line};
 ghost use Rattle.fibs_messages.specs.Line.{text_line, malformed_line, IsOfNumber, IsReading, reading_value, reading_of};
 ghost use Rattle.fibs_messages.specs.Line.{begins_a_board};
@@ -12,7 +12,7 @@ ghost use Rattle.fibs_fields.specs.Split.{before};
 use crate::message::Message;
 use crate::number::{number_of, rest_of};
 use crate::reader::read_message;
-use fibs_boards::Board;
+use fibs_fields::boards::Board;
 use fibs_fields::fault::{Fault, FieldFault};
 
 /// What a line of the server is.

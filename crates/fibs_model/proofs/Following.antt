@@ -1,13 +1,13 @@
 -- A client goes with the world.
 use Rattle.std.proofs.Common.{List, [], ◌∷◌, ◌++◌, refl, sym, ◌∙◌, ap, subst, append-nil, append_assoc}
-use Rattle.fibs_history.specs.Log.{Entry}
-use Rattle.fibs_history.specs.Machine.{Talk, noted as talk_noted, wire_of}
+use Rattle.fibs_session.specs.History.Log.{Entry}
+use Rattle.fibs_session.specs.History.Machine.{Talk, noted as talk_noted, wire_of}
 use Rattle.fibs_session.specs.Calls.Standing.{ClientValue, StandsAfter}
 use Rattle.fibs_session.specs.Calls.ClientLaws.{ServersEntriesAreSilent}
-use Rattle.fibs_machine.specs.World.{after, talk_of}
-use Rattle.fibs_machine.specs.Talks.{AllServers, Steps, Silence, Follows, left_of}
+use Rattle.fibs_model.specs.World.{after, talk_of}
+use Rattle.fibs_model.specs.Talks.{AllServers, Steps, Silence, Follows, left_of}
 use Rattle.fibs_model.specs.Clients.{ClientFollows}
-use Rattle.fibs_machine.proofs.Projection.{talk_path, talk_is_projected}
+use Rattle.fibs_model.proofs.Projection.{talk_path, talk_is_projected}
 
 -- entries of the server, however many, leave a client where it is
 several_silent : ServersEntriesAreSilent → (client : ClientValue) (es : List Entry) (t : Talk) → AllServers es

@@ -1,24 +1,25 @@
 -- What the calls of a world do to its log and its wires.
 use Rattle.std.specs.Prelude.{◌≡◌, ℕ, ◌+◌, take, drop, false, not, ◌&&◌, ◌||◌, List, [], ◌∷◌, length}
 use Rattle.std.specs.Prelude.{Option, Some, None, if◌then◌else◌, nat_eq, nat_lt, is_some}
-use Rattle.fibs_boards.specs.Board.{BoardFields}
+use Rattle.fibs_fields.specs.Board.{BoardFields}
 use Rattle.fibs_position.specs.DecisionValue.{DecisionValue}
-use Rattle.fibs_history.specs.declared.refusal.Refusal.{Refusal}
-use Rattle.fibs_history.specs.Log as L
-use Rattle.fibs_history.specs.Machine.{on_wire, wire_of}
-use Rattle.fibs_history.specs.Words.{is_empty}
-use Rattle.fibs_machine.specs.Events.{Event, Serve, Deliver}
+use Rattle.fibs_session.specs.declared.histories.refusal.Refusal.{Refusal}
+use Rattle.fibs_session.specs.History.Log as L
+use Rattle.fibs_session.specs.History.Machine.{on_wire, wire_of}
+use Rattle.fibs_session.specs.History.Words.{is_empty}
+use Rattle.fibs_model.specs.Events.{Event, Serve, Deliver}
 use Rattle.fibs_model.specs.LinksOf.{LinkValue, link_at, set_link}
-use Rattle.fibs_machine.specs.Server as V
+use Rattle.fibs_model.specs.Server as V
 use Rattle.fibs_position.specs.BoardEffect.{is_die}
-use Rattle.fibs_machine.specs.Server.{ServerValue}
+use Rattle.fibs_model.specs.Server.{ServerValue}
 use Rattle.fibs_model.specs.WireLinks.{more_asked, more_coming, taken}
-use Rattle.fibs_machine.specs.Wires.{next_line}
-use Rattle.fibs_model_server.specs.ServerOf.{after_line}
-pub use Rattle.fibs_model_server.specs.ServerOf.{served_entries, is_answered}
+use Rattle.fibs_model.specs.Wires.{next_line}
+use Rattle.fibs_model.specs.ServerOf.{after_line}
+pub use Rattle.fibs_model.specs.ServerOf.{served_entries, is_answered}
 use Rattle.fibs_model.specs.declared.world.link.Link as C
-use Rattle.fibs_machine.specs.declared.refusal.WorldRefusal.{WorldRefusal}
-use Rattle.fibs_machine.specs.declared.refusal.WorldRefusal.TheVariants.{NoSuchConnection, BadDice, NothingToServe}
+use Rattle.fibs_model.specs.declared.machine.refusal.WorldRefusal.{WorldRefusal}
+use Rattle.fibs_model.specs.declared.machine.refusal.WorldRefusal.TheVariants.{NoSuchConnection, BadDice}
+use Rattle.fibs_model.specs.declared.machine.refusal.WorldRefusal.TheVariants.{NothingToServe}
 
 -- commands go on the wire to the server
 abbrev pub ask_links : List LinkValue → ℕ → List (List ℕ) → List LinkValue

@@ -1,12 +1,12 @@
 -- A client goes with the world: by its calls, or by itself.
 use Rattle.std.specs.Prelude.{◌≡◌, ℕ, List, ◌++◌, Some, None}
-use Rattle.fibs_history.specs.Machine.{InputValue, wire_of}
+use Rattle.fibs_session.specs.History.Machine.{InputValue, wire_of}
 use Rattle.fibs_session.specs.Calls.Standing.{ClientValue, StandsAfter}
 use Rattle.fibs_session.specs.Calls.Doing.{Does}
-use Rattle.fibs_machine.specs.Events.{Event}
-use Rattle.fibs_machine.specs.World.{World, after, talk_of}
-use Rattle.fibs_machine.specs.Refusals.{refusal}
-use Rattle.fibs_machine.specs.Talks.{IsWorld, input_of, left_of}
+use Rattle.fibs_model.specs.Events.{Event}
+use Rattle.fibs_model.specs.World.{World, after, talk_of}
+use Rattle.fibs_model.specs.Refusals.{refusal}
+use Rattle.fibs_model.specs.Talks.{IsWorld, input_of, left_of}
 
 -- A client that is reached by what reaches the world's client goes on so: by its own call if the event is its input,
 -- and by itself if not.

@@ -1,16 +1,16 @@
 -- What the events of a world give to its carrier.
 use Rattle.std.specs.Prelude.{◌≡◌, ℕ, List, [], ◌∷◌, ◌++◌, Option, Some, None, take, if◌then◌else◌, nat_eq}
-use Rattle.fibs_boards.specs.Board.{BoardFields}
-use Rattle.fibs_history.specs.Words.{open_now}
-use Rattle.fibs_history.specs.Machine.{on_wire}
-use Rattle.fibs_carrier.specs.declared.carrier.Way.TheVariants.{ToServer, ToClient}
-use Rattle.fibs_carrier.specs.Carrying.{Crossing, connected, crossed, closed}
-use Rattle.fibs_machine.specs.Events.{Event, Open, Click, Plain, Deliver, Lose, Serve}
-use Rattle.fibs_machine.specs.Events.{Own, Repeat, Text, Order, Withdraw}
+use Rattle.fibs_fields.specs.Board.{BoardFields}
+use Rattle.fibs_session.specs.History.Words.{open_now}
+use Rattle.fibs_session.specs.History.Machine.{on_wire}
+use Rattle.fibs_model.specs.declared.carriers.carrier.Way.TheVariants.{ToServer, ToClient}
+use Rattle.fibs_model.specs.Carrying.{Crossing, connected, crossed, closed}
+use Rattle.fibs_model.specs.Events.{Event, Open, Click, Plain, Deliver, Lose, Serve}
+use Rattle.fibs_model.specs.Events.{Own, Repeat, Text, Order, Withdraw}
 use Rattle.fibs_model.specs.LinksOf.{link_at}
-use Rattle.fibs_machine.specs.Runs.{world_after}
-use Rattle.fibs_machine.specs.Wires.{next_line}
-use Rattle.fibs_machine.specs.World.{World, start, after}
+use Rattle.fibs_model.specs.Runs.{world_after}
+use Rattle.fibs_model.specs.Wires.{next_line}
+use Rattle.fibs_model.specs.World.{World, start, after}
 use Rattle.fibs_model.specs.WorldOf.{WorldValue}
 
 -- a line that is there crosses to the server, with its line end

@@ -4,11 +4,11 @@ use Rattle.fibs_lines.specs.Lines.{is_line_end}
 use Rattle.fibs_messages.specs.Line.{ReadingValue}
 use Rattle.fibs_session.specs.Calls.Standing.{ClientValue, StandsAfter}
 use Rattle.fibs_session.specs.Calls.Writing.{Writes}
-use Rattle.fibs_history.specs.Hearing.{heard}
-use Rattle.fibs_history.specs.Log.{Entry}
-use Rattle.fibs_history.specs.Machine.{Talk, Piece, step}
-use Rattle.fibs_history.specs.Owing.{owed, entries_owed}
-use Rattle.fibs_history.specs.Words.{open_now}
+use Rattle.fibs_session.specs.History.Hearing.{heard}
+use Rattle.fibs_session.specs.History.Log.{Entry}
+use Rattle.fibs_session.specs.History.Machine.{Talk, Piece, step}
+use Rattle.fibs_session.specs.History.Owing.{owed, entries_owed}
+use Rattle.fibs_session.specs.History.Words.{open_now}
 use Rattle.fibs_model.specs.LinksOf.{LinkValue, link_at, set_link, seen, RoomToServer}
 use Rattle.fibs_model.specs.WireLinks.{more_asked, delivered}
 use Rattle.fibs_model.specs.declared.world.link.Link as C

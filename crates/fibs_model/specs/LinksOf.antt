@@ -1,7 +1,7 @@
 -- The wires of the program's connections as values, and those of the machine to which they correspond.
 use Rattle.std.specs.Prelude.{◌≡◌, ◌≤◌, ◌-◌, ℕ, Bool, true, List, [], ◌∷◌, map, get_or, slice_set}
-use Rattle.fibs_history.specs.Words.{is_empty}
-use Rattle.fibs_machine.specs.Wires as W
+use Rattle.fibs_session.specs.History.Words.{is_empty}
+use Rattle.fibs_model.specs.Wires as W
 use Rattle.fibs_model.specs.declared.world.link.Link.{Link}
 
 -- what the value of a connection's wires says: the bytes on their way, and whether the server took no line yet

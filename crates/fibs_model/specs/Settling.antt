@@ -1,19 +1,19 @@
 -- What settling promises: the world comes to rest, and client and server agree.
 use Rattle.std.specs.Prelude.{◌≡◌, ℕ, ◌+◌, ◌≤◌, not, ◌&&◌, List, ◌++◌, Option, Some, None, if◌then◌else◌}
 use Rattle.std.specs.Prelude.{nat_eq, length}
-use Rattle.fibs_boards.specs.Board.{BoardFields}
+use Rattle.fibs_fields.specs.Board.{BoardFields}
 use Rattle.fibs_position.specs.BoardEffect.{is_die}
 use Rattle.fibs_commands.specs.Logins.{login_text}
-use Rattle.fibs_history.specs.Words.{last, open_now, shown}
-use Rattle.fibs_machine.specs.Acts.{acts_after}
-use Rattle.fibs_machine.specs.Agrees.{BoardsAgree}
-use Rattle.fibs_machine.specs.CanRest.{OnlyWires, WithDice, asked_now}
-use Rattle.fibs_machine.specs.Events.{Event}
-use Rattle.fibs_machine.specs.Headline.{IsAtRest}
-use Rattle.fibs_machine.specs.Joint.{AreLines}
-use Rattle.fibs_machine.specs.World.{World}
-use Rattle.fibs_machine.specs.declared.refusal.WorldRefusal.{WorldRefusal}
-use Rattle.fibs_machine.specs.declared.refusal.WorldRefusal.TheVariants.{NotOpen, BadDice}
+use Rattle.fibs_session.specs.History.Words.{last, open_now, shown}
+use Rattle.fibs_model.specs.Acts.{acts_after}
+use Rattle.fibs_model.specs.Agrees.{BoardsAgree}
+use Rattle.fibs_model.specs.CanRest.{OnlyWires, WithDice, asked_now}
+use Rattle.fibs_model.specs.Events.{Event}
+use Rattle.fibs_model.specs.Headline.{IsAtRest}
+use Rattle.fibs_model.specs.Joint.{AreLines}
+use Rattle.fibs_model.specs.World.{World}
+use Rattle.fibs_model.specs.declared.machine.refusal.WorldRefusal.{WorldRefusal}
+use Rattle.fibs_model.specs.declared.machine.refusal.WorldRefusal.TheVariants.{NotOpen, BadDice}
 use Rattle.fibs_model.specs.WorldCalls.{WorldStandsAfter, machine_after}
 use Rattle.fibs_model.specs.WorldOf.{WorldValue}
 

@@ -1,17 +1,17 @@
 -- What the calls of a world promise, in the words of the machine.
 use Rattle.std.specs.Prelude.{◌≡◌, ℕ, List, [], ◌∷◌, Option, None, Some, Result, Ok, Err}
-use Rattle.fibs_boards.specs.Board.{BoardFields}
+use Rattle.fibs_fields.specs.Board.{BoardFields}
 use Rattle.fibs_position.specs.GoodBoard.{IsGood}
 use Rattle.fibs_commands.specs.Logins.{IsLogin, login_text}
-use Rattle.fibs_machine.specs.Events.{Event}
-use Rattle.fibs_machine.specs.Refusals.{refusal}
-use Rattle.fibs_machine.specs.Runs.{MayBe, world_after}
-use Rattle.fibs_machine.specs.World.{World}
+use Rattle.fibs_model.specs.Events.{Event}
+use Rattle.fibs_model.specs.Refusals.{refusal}
+use Rattle.fibs_model.specs.Runs.{MayBe, world_after}
+use Rattle.fibs_model.specs.World.{World}
 use Rattle.fibs_model.specs.WorldOf.{WorldValue, StandsFor}
 use Rattle.fibs_model.specs.declared.halt.Stop.{Stop}
 use Rattle.fibs_model.specs.declared.halt.Stop.TheVariants.{Refused, Broken}
-use Rattle.fibs_machine.specs.declared.refusal.WorldRefusal.{WorldRefusal}
-use Rattle.fibs_machine.specs.declared.refusal.WorldRefusal.TheVariants.{Memory}
+use Rattle.fibs_model.specs.declared.machine.refusal.WorldRefusal.{WorldRefusal}
+use Rattle.fibs_model.specs.declared.machine.refusal.WorldRefusal.TheVariants.{Memory}
 
 -- the machine's world after the events, from the first board on, for the login of a name and a password
 abbrev pub machine_after : List ℕ → List ℕ → BoardFields → List Event → World

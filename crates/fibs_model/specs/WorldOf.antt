@@ -1,15 +1,15 @@
 -- The world of the program, and the world of the machine to which it corresponds.
 use Rattle.std.specs.Prelude.{◌≡◌, ◌≤◌, ℕ, List, length, map, vec_len, None}
 use Rattle.fibs_session.specs.Calls.Standing.{ClientValue, StandsAfter}
-use Rattle.fibs_history.specs.Log.{Entry}
-use Rattle.fibs_history.specs.Words.{open_now}
-use Rattle.fibs_machine.specs.Talks.{IsWorld}
-use Rattle.fibs_model_server.specs.EntryOf.{entry_of}
-use Rattle.fibs_machine.specs.Events.{Event}
+use Rattle.fibs_session.specs.History.Log.{Entry}
+use Rattle.fibs_session.specs.History.Words.{open_now}
+use Rattle.fibs_model.specs.Talks.{IsWorld}
+use Rattle.fibs_model.specs.EntryOf.{entry_of}
+use Rattle.fibs_model.specs.Events.{Event}
 use Rattle.fibs_model.specs.LinksOf.{LinkValue, kept_of, seen, link_at}
-use Rattle.fibs_machine.specs.Refusals.{refusal}
-use Rattle.fibs_machine.specs.Server.{ServerValue}
-use Rattle.fibs_machine.specs.World.{World, talk_of, after}
+use Rattle.fibs_model.specs.Refusals.{refusal}
+use Rattle.fibs_model.specs.Server.{ServerValue}
+use Rattle.fibs_model.specs.World.{World, talk_of, after}
 use Rattle.fibs_model.specs.declared.world.World.TheInside.{Inside}
 
 -- what the value of a world of the program says

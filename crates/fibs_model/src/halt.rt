@@ -2,8 +2,8 @@
 
 ghost use Rattle.std.specs.Prelude.{◌≡◌};
 
-use fibs_carrier::Broken;
-use fibs_machine::WorldRefusal;
+use crate::carriers::Broken;
+use crate::machine::WorldRefusal;
 use std::alloc::AllocError;
 
 /// Why an event that is not refused is not done.

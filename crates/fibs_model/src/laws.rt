@@ -2,7 +2,7 @@
 
 ghost use Rattle.fibs_model.specs.Crossings.{CrossingsJoin};
 
-pub use fibs_machine::laws::{agrees, can_rest, headline, joint_statement, once, one_step};
+pub use crate::machine::laws::{agrees, can_rest, headline, joint_statement, once, one_step};
 
 /// What crosses a carrier at several events is what crosses at each, one after another.
 pub fn crossings_join()

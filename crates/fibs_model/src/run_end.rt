@@ -1,6 +1,6 @@
 //! How a run of events ended.
 
-use fibs_machine::WorldRefusal;
+use crate::machine::WorldRefusal;
 
 /// How a run of events ended.
 #[derive(Clone, Copy, Debug, PartialEq, Eq)]

@@ -5,20 +5,20 @@ ghost use Rattle.std.specs.Prelude.{true, IsErrOf, OnOk, length, map, take, drop
 ghost use Rattle.std.specs.Prelude.{if◌then◌else◌};
 ghost use Rattle.std.specs.Option.{option_copied};
 ghost use Rattle.std.specs.Result.{result_err};
-ghost use Rattle.fibs_boards.specs.Board.{BoardFields};
-ghost use Rattle.fibs_boards.specs.StoredBoard.{fields_of};
+ghost use Rattle.fibs_fields.specs.Board.{BoardFields};
+ghost use Rattle.fibs_fields.specs.StoredBoard.{fields_of};
 ghost use Rattle.fibs_position.specs.GoodBoard.{good};
-ghost use Rattle.fibs_history.specs.Words.{last, shown, open_now};
+ghost use Rattle.fibs_session.specs.History.Words.{last, shown, open_now};
 ghost use Rattle.fibs_commands.specs.LoginOf.{name_of, password_of};
 ghost use Rattle.fibs_commands.specs.Logins.{login_text};
 ghost use Rattle.fibs_model.specs.Crossings.{crossings_of};
 ghost use Rattle.fibs_model.specs.Settling.{Settled, settle_refusal};
-ghost use Rattle.fibs_model_server.specs.EntryOf.{entry_of};
-ghost use Rattle.fibs_model_server.specs.EventOf.{event_of};
-ghost use Rattle.fibs_machine.specs.Events as E;
-ghost use Rattle.fibs_machine.specs.Headline.{AllAtMost, Headline};
-ghost use Rattle.fibs_machine.specs.Once.{Once};
-ghost use Rattle.fibs_machine.specs.Refusals.{refusal};
+ghost use Rattle.fibs_model.specs.EntryOf.{entry_of};
+ghost use Rattle.fibs_model.specs.EventOf.{event_of};
+ghost use Rattle.fibs_model.specs.Events as E;
+ghost use Rattle.fibs_model.specs.Headline.{AllAtMost, Headline};
+ghost use Rattle.fibs_model.specs.Once.{Once};
+ghost use Rattle.fibs_model.specs.Refusals.{refusal};
 ghost use Rattle.fibs_model.specs.WorldCalls.{WorldStandsAfter, machine_after, Agrees, Halts, Stops, accepted};
 
 mod clicking;
@@ -36,13 +36,12 @@ mod serving;
 mod settling;
 mod stepping;
 
+use crate::carriers::{Carrier, InMemory};
 use crate::halt::{Halt, Stop};
-use crate::laws;
+use crate::machine::WorldRefusal;
 use crate::run_end::RunEnd;
-use fibs_boards::Board;
-use fibs_carrier::{Carrier, InMemory};
-use fibs_machine::WorldRefusal;
-use fibs_model_server::{Entry, Event, Server};
+use crate::{Entry, Event, Server, laws};
+use fibs_fields::boards::Board;
 use fibs_session::{Client, Login};
 use link::Link;
 use std::alloc::Global;
@@ -77,7 +76,7 @@ impl Model for World {
 }
 
 impl World {
-    ghost use Rattle.fibs_machine.specs.declared.refusal.WorldRefusal.TheVariants.{BadBoard};
+    ghost use Rattle.fibs_model.specs.declared.machine.refusal.WorldRefusal.TheVariants.{BadBoard};
 
     /// A world in which nothing has happened, with a first board of the server and the login of the user.
     ///

@@ -1,6 +1,6 @@
 -- The lines of a half, without those between the halves and below. Only private contracts cite them.
 use Rattle.std.specs.Prelude.{ℕ, List, [], ◌∷◌}
-use Rattle.fibs_boards.specs.Board.{BoardFields, field_of}
+use Rattle.fibs_fields.specs.Board.{BoardFields, field_of}
 use Rattle.fibs_position.specs.PositionValue.{PositionValue}
 use Rattle.fibs_picture.specs.Cells.{own_letter, other_letter}
 use Rattle.fibs_picture.specs.Picture.{edge, layer, named, score, off, pips, own_pips, other_pips, dice, match_length}

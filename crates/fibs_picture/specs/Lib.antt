@@ -7,3 +7,4 @@ pub mod Places
 pub mod Told
 pub mod Fits
 pub mod WatchedTold
+pub mod InWords

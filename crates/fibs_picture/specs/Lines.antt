@@ -1,6 +1,6 @@
 -- The parts of a picture's lines, by name. Only private contracts cite them.
 use Rattle.std.specs.Prelude.{ℕ, List, codes}
-use Rattle.fibs_boards.specs.Board.{BoardFields, field_of}
+use Rattle.fibs_fields.specs.Board.{BoardFields, field_of}
 use Rattle.fibs_position.specs.OwnView.{turn, colour}
 use Rattle.fibs_position.specs.PositionValue.{PositionValue}
 use Rattle.fibs_picture.specs.Cells.{own_letter, other_letter}

@@ -6,7 +6,7 @@ use Rattle.std.specs.Prelude.{decimal, map, sum, take, slice_index, is_none, ifâ
 use Rattle.std.specs.Fmt.{signed_decimal}
 use Rattle.std.specs.List.{flat_map, range_with_len}
 use Rattle.std.specs.Ordering.{int_eq}
-use Rattle.fibs_boards.specs.Board.{BoardFields, field_of}
+use Rattle.fibs_fields.specs.Board.{BoardFields, field_of}
 use Rattle.fibs_rules.specs.Checkers.{Checkers}
 use Rattle.fibs_position.specs.Allowed.{refusal_of}
 use Rattle.fibs_position.specs.DecisionValue.{DecisionValue, accept, double}

@@ -1,7 +1,7 @@
 -- What a picture says of a board.
 use Rattle.std.specs.Prelude.{◌≡◌, pos, [], ◌∷◌, map, take, if◌then◌else◌}
 use Rattle.std.specs.Ordering.{int_eq}
-use Rattle.fibs_boards.specs.Board.{BoardFields, field_of}
+use Rattle.fibs_fields.specs.Board.{BoardFields, field_of}
 use Rattle.fibs_position.specs.DirectionOf.{direction_of}
 use Rattle.fibs_position.specs.GoodBoard.{IsGood}
 use Rattle.fibs_position.specs.OwnView.{own_view, turn, colour}

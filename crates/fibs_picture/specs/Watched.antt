@@ -5,7 +5,7 @@ use Rattle.std.specs.Prelude.{◌++◌, ℕ, ℤ, pos, Bool, true, false, List, 
 use Rattle.std.specs.Fmt.{signed_decimal}
 use Rattle.std.specs.List.{flat_map}
 use Rattle.std.specs.Ordering.{int_eq}
-use Rattle.fibs_boards.specs.Board.{BoardFields, field_of}
+use Rattle.fibs_fields.specs.Board.{BoardFields, field_of}
 use Rattle.fibs_position.specs.OwnView.{turn, colour}
 use Rattle.fibs_position.specs.PositionValue.{PositionValue, position_of}
 use Rattle.fibs_picture.specs.Cells.{own_letter, other_letter}

@@ -1,7 +1,7 @@
 -- What the picture of a board says that the user watches, and how large it is.
 use Rattle.std.specs.Prelude.{◌≡◌, ℕ, List, [], ◌∷◌, length, map, take}
 use Rattle.std.specs.List.{flat_map, AllByRecursion}
-use Rattle.fibs_boards.specs.Board.{BoardFields, field_of}
+use Rattle.fibs_fields.specs.Board.{BoardFields, field_of}
 use Rattle.fibs_position.specs.DirectionOf.{direction_of}
 use Rattle.fibs_position.specs.OwnView.{own_view}
 use Rattle.fibs_position.specs.Watched.{IsWatched}

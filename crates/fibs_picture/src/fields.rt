@@ -1,10 +1,10 @@
 //! The fields of a board that a picture shows.
 ghost use Rattle.std.specs.Prelude.{◌≡◌, ◌≤◌};
-ghost use Rattle.fibs_boards.specs.Board.{field_of};
-ghost use Rattle.fibs_boards.specs.StoredBoard.{fields_of};
+ghost use Rattle.fibs_fields.specs.Board.{field_of};
+ghost use Rattle.fibs_fields.specs.StoredBoard.{fields_of};
 ghost use Rattle.fibs_picture.specs.Picture.{is_one};
 
-use fibs_boards::Board;
+use fibs_fields::boards::Board;
 
 /// The number of a field.
 pub fn number(board: &Board, field: usize) -> i32

@@ -3,7 +3,7 @@ ghost use Rattle.fibs_picture.specs.Fits.{PictureFits};
 ghost use Rattle.fibs_picture.specs.Told.{PictureTells};
 ghost use Rattle.fibs_picture.specs.WatchedTold.{WatchedPictureTells, WatchedPictureFits};
 
-use fibs_boards::laws::fields_have_their_ranges;
+use fibs_fields::boards::laws::fields_have_their_ranges;
 
 /// Boards with the same picture, each with a position, look the same (`SameToTheEye`).
 pub fn picture_tells()

@@ -4,6 +4,7 @@
 mod cells;
 mod fields;
 mod half;
+pub mod in_words;
 pub mod laws;
 mod layers;
 mod lines;

@@ -1,7 +1,7 @@
 //! The lines of a picture: what is drawn at the left of each, and what is written beside it.
 ghost use Rattle.std.specs.Prelude.{◌+◌, ◌++◌, ◌∷◌, [], OnOk};
 ghost use Rattle.std.specs.Io.KnownBytes.{Appends};
-ghost use Rattle.fibs_boards.specs.StoredBoard.{fields_of};
+ghost use Rattle.fibs_fields.specs.StoredBoard.{fields_of};
 ghost use Rattle.fibs_position.specs.PositionValue.{position_value};
 ghost use Rattle.fibs_picture.specs.Picture.{line, match_length, cube};
 ghost use Rattle.fibs_picture.specs.Lines.{drawn_at, written_at};
@@ -14,8 +14,8 @@ use crate::names::{write_watched_cube, write_watched_turn};
 use crate::pips::{other_pips, own_pips};
 use crate::words::{deed_in, doublers, turn_words, write_dice, write_name, write_words};
 use crate::writing::{write_digits, write_number, write_text};
-use fibs_boards::Board;
-use fibs_boards::fields::{
+use fibs_fields::boards::Board;
+use fibs_fields::boards::fields::{
     COLOUR, CUBE, FIRST_DIE, MATCH_LENGTH, MAY_DOUBLE, OTHER_FIRST_DIE, OTHER_MAY_DOUBLE,
     OTHER_OFF, OTHER_SCORE, OTHER_SECOND_DIE, OWN_OFF, OWN_SCORE, SECOND_DIE, TURN, UNLIMITED,
 };

@@ -2,8 +2,8 @@
 ghost use Rattle.std.specs.Prelude.{◌++◌, ◌∷◌, [], OnOk, codes, take};
 ghost use Rattle.std.specs.Fmt.{signed_decimal};
 ghost use Rattle.std.specs.Io.KnownBytes.{Appends};
-ghost use Rattle.fibs_boards.specs.Board.{field_of};
-ghost use Rattle.fibs_boards.specs.StoredBoard.{fields_of};
+ghost use Rattle.fibs_fields.specs.Board.{field_of};
+ghost use Rattle.fibs_fields.specs.StoredBoard.{fields_of};
 ghost use Rattle.fibs_picture.specs.Picture.{is_one};
 ghost use Rattle.fibs_picture.specs.Watched.{possessive, turn_of, watched_turn, doublers_of, watched_cube};
 
@@ -11,8 +11,8 @@ use crate::cells::{OTHER_LETTER, OWN_LETTER};
 use crate::fields::{is_one, number};
 use crate::words::{FREE_CUBE, NO_DOUBLING, first_of};
 use crate::writing::{write_digits, write_text};
-use fibs_boards::Board;
-use fibs_boards::fields::{COLOUR, CUBE, MAY_DOUBLE, OTHER_MAY_DOUBLE, TURN};
+use fibs_fields::boards::Board;
+use fibs_fields::boards::fields::{COLOUR, CUBE, MAY_DOUBLE, OTHER_MAY_DOUBLE, TURN};
 use std::io;
 use std::io::Write;
 

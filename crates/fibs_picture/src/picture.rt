@@ -2,7 +2,7 @@
 ghost use Rattle.std.specs.Prelude.{◌++◌, OnOk};
 ghost use Rattle.std.specs.List.{flat_map};
 ghost use Rattle.std.specs.Io.KnownBytes.{Appends};
-ghost use Rattle.fibs_boards.specs.StoredBoard.{fields_of};
+ghost use Rattle.fibs_fields.specs.StoredBoard.{fields_of};
 ghost use Rattle.fibs_position.specs.GameOf.{game_of};
 ghost use Rattle.fibs_position.specs.PositionValue.{position_value};
 ghost use Rattle.fibs_position.specs.WatchedOf.{watched_of};
@@ -16,7 +16,7 @@ use crate::lines::Written::{
     Cube, Deed, Dice, Length, Name, Off, Pips, Score, Turn, WatchedCube, WatchedTurn,
 };
 use crate::lines::draw_line;
-use fibs_boards::Board;
+use fibs_fields::boards::Board;
 use fibs_position::{GameBoard, Position, WatchedBoard};
 use std::io;
 use std::io::Write;

@@ -1,7 +1,7 @@
 -- Which decisions a user may make (the standard rules of backgammon; FIBS board style 3).
 use Rattle.std.specs.Prelude.{◌≢◌, ◌⊎◌, ◌≤ℤ◌, ◌&&◌, not, pos, Bool, true, false, List, [], ◌∷◌, Option, find, int_le}
 use Rattle.std.specs.Ordering.{int_eq}
-use Rattle.fibs_boards.specs.Board.{BoardFields}
+use Rattle.fibs_fields.specs.Board.{BoardFields}
 use Rattle.fibs_position.specs.First.{IsFirst}
 use Rattle.fibs_position.specs.PositionValue.{PositionValue, position_of}
 use Rattle.fibs_rules.specs.LegalPlays.{LegalPlay, legal_of}

@@ -1,7 +1,7 @@
 -- Directions (FIBS board style 3, field 43).
 use Rattle.std.specs.Prelude.{◌-◌, ℕ, negsuc, if◌then◌else◌}
 use Rattle.std.specs.Ordering.{int_eq}
-use Rattle.fibs_boards.specs.Board.{BoardFields, field_of}
+use Rattle.fibs_fields.specs.Board.{BoardFields, field_of}
 use Rattle.fibs_position.specs.declared.direction.Direction.{Direction}
 use Rattle.fibs_position.specs.declared.direction.Direction.TheVariants.{Down, Up}
 

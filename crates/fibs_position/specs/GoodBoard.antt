@@ -1,7 +1,7 @@
 -- Boards that have a position.
 use Rattle.std.specs.Prelude.{◌≡◌, ◌≢◌, ◌<◌, ◌≤◌, ◌&&◌, Bool, List, [], ◌∷◌, codes, nat_le}
 use Rattle.std.specs.Str.{bytes_eq}
-use Rattle.fibs_boards.specs.Board.{BoardFields, IsBoard, is_board}
+use Rattle.fibs_fields.specs.Board.{BoardFields, IsBoard, is_board}
 use Rattle.fibs_position.specs.OwnView.{own_placed, other_placed}
 use Rattle.fibs_position.specs.declared.position_fault.PositionFault.{PositionFault}
 use Rattle.fibs_position.specs.declared.position_fault.PositionFault.TheVariants.{NotYou, TooManyOwn, TooManyOther}

@@ -1,6 +1,6 @@
 -- Laws of the rules.
 use Rattle.std.specs.Prelude.{◌≡◌, ◌↔◌, ℕ, ◌<◌, ◌≤◌, true, false, List, [], ◌∷◌, Some, None}
-use Rattle.fibs_boards.specs.Board.{BoardFields}
+use Rattle.fibs_fields.specs.Board.{BoardFields}
 use Rattle.fibs_position.specs.GoodBoard.{IsGood, good}
 use Rattle.fibs_position.specs.GamePart.{Differ, same_game}
 use Rattle.fibs_position.specs.Phases.{IsPhase, decides, phase_of}

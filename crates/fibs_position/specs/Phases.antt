@@ -1,7 +1,7 @@
 -- The phases of a turn (the standard rules of backgammon; FIBS board style 3).
 use Rattle.std.specs.Prelude.{◌≡◌, ◌≢◌, ◌&&◌, ◌==◌, not, Bool, true, false, List, [], ◌∷◌, pos, find, unwrap_or}
 use Rattle.std.specs.Ordering.{int_eq}
-use Rattle.fibs_boards.specs.Board.{BoardFields}
+use Rattle.fibs_fields.specs.Board.{BoardFields}
 use Rattle.fibs_position.specs.First.{IsFirst}
 use Rattle.fibs_position.specs.PositionValue.{PositionValue, position_of}
 use Rattle.fibs_rules.specs.Runs.{CanMove, can_move}

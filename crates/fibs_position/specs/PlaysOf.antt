@@ -1,6 +1,6 @@
 -- The plays of a position, and of a board.
 use Rattle.std.specs.Prelude.{◌≡◌, List, []}
-use Rattle.fibs_boards.specs.Board.{BoardFields}
+use Rattle.fibs_fields.specs.Board.{BoardFields}
 use Rattle.fibs_rules.specs.Hop.{Hop}
 use Rattle.fibs_rules.specs.LegalPlays.{PlayList}
 use Rattle.fibs_position.specs.PositionValue.{PositionValue, position_of}

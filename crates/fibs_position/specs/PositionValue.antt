@@ -1,6 +1,6 @@
 -- Positions as values: what the rules read of a board, seen from its player's side (FIBS board style 3).
 use Rattle.std.specs.Prelude.{ℤ}
-use Rattle.fibs_boards.specs.Board.{BoardFields, field_of}
+use Rattle.fibs_fields.specs.Board.{BoardFields, field_of}
 use Rattle.fibs_position.specs.DirectionOf.{direction_of}
 use Rattle.fibs_position.specs.OwnView.{turn, colour, standing_of}
 use Rattle.fibs_rules.specs.Runs.{Standing}

@@ -1,7 +1,7 @@
 -- Boards of games that the user watches (FIBS board style 3: field 2 is the name of the player who is watched).
 use Rattle.std.specs.Prelude.{◌≡◌, ◌≢◌, ◌≤◌, ◌↔◌, ◌&&◌, not, Bool, true, false, codes, nat_le}
 use Rattle.std.specs.Str.{bytes_eq}
-use Rattle.fibs_boards.specs.Board.{BoardFields, IsBoard, is_board}
+use Rattle.fibs_fields.specs.Board.{BoardFields, IsBoard, is_board}
 use Rattle.fibs_position.specs.GoodBoard.{good}
 use Rattle.fibs_position.specs.OwnView.{own_placed, other_placed}
 

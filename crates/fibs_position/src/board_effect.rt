@@ -2,8 +2,8 @@
 
 ghost use Rattle.std.specs.Prelude.{◌≡◌, ◌↔◌, ◌≤◌, ◌≤ℤ◌, ◌&&◌, not, ℕ, List, pos, negsuc, true, IsTrue, Some};
 ghost use Rattle.std.specs.Prelude.{option_map, slice_index, ◌==◌, if◌then◌else◌, neg_ℤ};
-ghost use Rattle.fibs_boards.specs.Board.{BoardFields, can_have, field_of};
-ghost use Rattle.fibs_boards.specs.StoredBoard.{fields_of};
+ghost use Rattle.fibs_fields.specs.Board.{BoardFields, can_have, field_of};
+ghost use Rattle.fibs_fields.specs.StoredBoard.{fields_of};
 ghost use Rattle.fibs_position.specs.BoardEffect.{set_field, set_fields, rolled, turn_given, accepted, rejected};
 ghost use Rattle.fibs_position.specs.BoardEffect.{value_of, placed, after_move, Effect, is_die, are_thrown, has_turn};
 ghost use Rattle.fibs_position.specs.BoardEffect.{is_doubled, carried, effect_of};
@@ -16,12 +16,12 @@ use crate::cube::MOST_DOUBLED;
 use crate::decision::Decision;
 use crate::good_board::is_good;
 use crate::own_view::{arrangement_of, colour, no_dice, place_field};
-use fibs_boards::Board;
-use fibs_boards::fields::{
+use fibs_fields::boards::Board;
+use fibs_fields::boards::fields::{
     COLOUR, CUBE, FIRST_DIE, MAY_DOUBLE, OTHER_FIRST_DIE, OTHER_MAY_DOUBLE, OTHER_SECOND_DIE,
     OWN_OFF, SECOND_DIE, TURN, WAS_DOUBLED,
 };
-use fibs_boards::laws::{fields_have_their_ranges, is_board_is_exact};
+use fibs_fields::boards::laws::{fields_have_their_ranges, is_board_is_exact};
 use fibs_rules::{Arrangement, Play};
 
 /// The board with a number of a field changed that it may have.

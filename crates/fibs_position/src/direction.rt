@@ -1,10 +1,10 @@
 //! Which way a player goes.
 
 ghost use Rattle.std.specs.Prelude.{◌≡◌, ◌≤◌};
-ghost use Rattle.fibs_boards.specs.StoredBoard.{fields_of};
+ghost use Rattle.fibs_fields.specs.StoredBoard.{fields_of};
 
-use fibs_boards::Board;
-use fibs_boards::fields::DIRECTION;
+use fibs_fields::boards::Board;
+use fibs_fields::boards::fields::DIRECTION;
 
 /// Which way a player's checkers go by the numbers of the board line.
 #[derive(Clone, Copy, Debug, PartialEq, Eq)]

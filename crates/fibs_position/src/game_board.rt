@@ -1,7 +1,7 @@
 //! A board of a game in which the user plays, with its position.
 
 ghost use Rattle.std.specs.Prelude.{◌≡◌, ◌↔◌, IsOk, is_ok, IfOk, Err, true, not, None, Some, if◌then◌else◌};
-ghost use Rattle.fibs_boards.specs.StoredBoard.{fields_of};
+ghost use Rattle.fibs_fields.specs.StoredBoard.{fields_of};
 ghost use Rattle.fibs_position.specs.DirectionOf.{direction_of};
 ghost use Rattle.fibs_position.specs.First.{IsFirst};
 ghost use Rattle.fibs_position.specs.GamePart.{same_game};
@@ -14,7 +14,7 @@ use crate::game_part::differs;
 use crate::phase::Phase;
 use crate::position::Position;
 use crate::position_fault::PositionFault;
-use fibs_boards::Board;
+use fibs_fields::boards::Board;
 
 /// A board of a game in which the user plays. Its position is made once, with it.
 #[derive(Clone, Copy, Debug)]

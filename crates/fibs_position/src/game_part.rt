@@ -1,10 +1,10 @@
 //! Whether the game has gone on from one board to another.
 
 ghost use Rattle.std.specs.Prelude.{◌≡◌, ◌≤◌, ◌↔◌, ◌-◌, ◌+◌, IsTrue, not};
-ghost use Rattle.fibs_boards.specs.StoredBoard.{fields_of};
+ghost use Rattle.fibs_fields.specs.StoredBoard.{fields_of};
 ghost use Rattle.fibs_position.specs.GamePart.{Differ, Agree, game_part, same_game};
 
-use fibs_boards::Board;
+use fibs_fields::boards::Board;
 
 /// Two boards have the same numbers from a first to a last field.
 fn agree(a: &Board, b: &Board, first: usize, last: usize) -> bool

@@ -1,13 +1,13 @@
 //! Whether a board has a position, and its phase, for callers that need nothing else of the position.
 
 ghost use Rattle.std.specs.Prelude.{◌≡◌, ◌↔◌, IsTrue, None, Some, if◌then◌else◌};
-ghost use Rattle.fibs_boards.specs.StoredBoard.{fields_of};
+ghost use Rattle.fibs_fields.specs.StoredBoard.{fields_of};
 ghost use Rattle.fibs_position.specs.GoodBoard.{IsGood, good};
 ghost use Rattle.fibs_position.specs.Phases.{phase_of};
 
 use crate::phase::Phase;
 use crate::position::Position;
-use fibs_boards::Board;
+use fibs_fields::boards::Board;
 
 /// The board has a position.
 pub fn is_good(board: &Board) -> bool

@@ -14,7 +14,7 @@ use crate::disallowed::Disallowed;
 use crate::phase::Phase;
 use crate::position_fault::PositionFault;
 use crate::stake::Stake;
-use fibs_boards::laws::{fields_have_their_ranges, is_board_is_exact};
+use fibs_fields::boards::laws::{fields_have_their_ranges, is_board_is_exact};
 pub use fibs_rules::laws::{
     legal_is_carried_out, legal_plays_are_steps, plays_are_their_steps, steps_are_their_places,
     steps_swap,

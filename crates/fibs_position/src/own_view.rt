@@ -2,16 +2,16 @@
 
 ghost use Rattle.std.specs.Prelude.{◌≡◌, ◌⊎◌, ◌+◌, ◌-◌, ◌≤◌, ◌≤ℤ◌, ◌∷◌, ◌++◌, [], pos, negsuc, sum};
 ghost use Rattle.fibs_fields.specs.FieldReading.{natural};
-ghost use Rattle.fibs_boards.specs.Board.{field_of};
-ghost use Rattle.fibs_boards.specs.StoredBoard.{fields_of};
+ghost use Rattle.fibs_fields.specs.Board.{field_of};
+ghost use Rattle.fibs_fields.specs.StoredBoard.{fields_of};
 ghost use Rattle.fibs_position.specs.OwnView.{colour, place_field, stand_on, on_places, own_on_places, other_on_places};
 ghost use Rattle.fibs_position.specs.OwnView.{own_off, other_off, own_placed, other_placed, own_view};
 ghost use Rattle.fibs_position.specs.OwnView.{first_die, second_die, no_dice};
 
 use crate::direction::Direction;
-use fibs_boards::Board;
-use fibs_boards::fields::{COLOUR, FIRST_DIE, FIRST_PLACE, OTHER_OFF, OWN_OFF, SECOND_DIE};
-use fibs_boards::laws::fields_have_their_ranges;
+use fibs_fields::boards::Board;
+use fibs_fields::boards::fields::{COLOUR, FIRST_DIE, FIRST_PLACE, OTHER_OFF, OWN_OFF, SECOND_DIE};
+use fibs_fields::boards::laws::fields_have_their_ranges;
 use fibs_rules::{Arrangement, total};
 
 /// The player's colour: 1 for O, -1 for X.

@@ -4,7 +4,7 @@
 ghost use Rattle.std.specs.Prelude.{◌≡◌, ◌≤◌, ◌↔◌, ◌&&◌, ◌∷◌, [], IsOk, is_ok, IfOk, IsTrue, Err, codes, map, sum};
 ghost use Rattle.std.specs.Prelude.{slice_index};
 ghost use Rattle.std.specs.Result.{result_err};
-ghost use Rattle.fibs_boards.specs.StoredBoard.{fields_of};
+ghost use Rattle.fibs_fields.specs.StoredBoard.{fields_of};
 ghost use Rattle.fibs_position.specs.OwnView.{own_view, own_placed, other_placed};
 ghost use Rattle.fibs_position.specs.GoodBoard.{IsGood};
 ghost use Rattle.fibs_position.specs.declared.position_fault.PositionFault.TheVariants.{TooManyOwn, TooManyOther};
@@ -16,9 +16,9 @@ use crate::disallowed::Disallowed;
 use crate::own_view::{arranged, first_die, other_placed, own_placed, second_die};
 use crate::phase::Phase;
 use crate::position_fault::PositionFault;
-use fibs_boards::Board;
-use fibs_boards::fields::{COLOUR, CUBE, MAY_DOUBLE, TURN, WAS_DOUBLED};
-use fibs_boards::laws::is_board_is_exact;
+use fibs_fields::boards::Board;
+use fibs_fields::boards::fields::{COLOUR, CUBE, MAY_DOUBLE, TURN, WAS_DOUBLED};
+use fibs_fields::boards::laws::is_board_is_exact;
 use fibs_rules::{Arrangement, Play, Turn};
 use std::alloc::{AllocError, Global};
 

@@ -1,13 +1,13 @@
 //! A board of a game that the user watches, with its position.
 
 ghost use Rattle.std.specs.Prelude.{◌≡◌, ◌↔◌, IsSome, is_some, IfSome, true};
-ghost use Rattle.fibs_boards.specs.StoredBoard.{fields_of};
+ghost use Rattle.fibs_fields.specs.StoredBoard.{fields_of};
 ghost use Rattle.fibs_position.specs.PositionValue.{position_of, position_value};
 ghost use Rattle.fibs_position.specs.Watched.{IsWatched, watched};
 
 use crate::position::{Position, is_you};
-use fibs_boards::Board;
-use fibs_boards::laws::is_board_is_exact;
+use fibs_fields::boards::Board;
+use fibs_fields::boards::laws::is_board_is_exact;
 
 /// A board on which the user does not play, with its position as the player sees it who is watched. Nothing is decided
 /// on it: it is no `GameBoard`.

@@ -1,14 +1,14 @@
 -- What a run of a script gave to its carrier.
 use Rattle.std.specs.Prelude.{◌≡◌, ◌++◌, ◌⊎◌, ℕ, List, [], length, Option}
 use Rattle.std.specs.Io.KnownBytes.{Appends, Consumes, IsAtEnd, Keeps}
-use Rattle.fibs_boards.specs.Board.{BoardFields}
+use Rattle.fibs_fields.specs.Board.{BoardFields}
 use Rattle.fibs_model.specs.Carrying.{Crossing}
 use Rattle.fibs_model.specs.Crossings.{crossings}
 use Rattle.fibs_model.specs.Events.{Event}
 use Rattle.fibs_model.specs.Runs.{MayBe}
-use Rattle.fibs_machine.specs.declared.refusal.WorldRefusal.{WorldRefusal}
-use Rattle.fibs_scripts.specs.Output.{script_login, log_after, unread_text, end_text, refused_text}
-use Rattle.fibs_scripts.specs.Scripts.{script_lines, SayScript}
+use Rattle.fibs_model.specs.declared.machine.refusal.WorldRefusal.{WorldRefusal}
+use Rattle.fibs_replay.specs.Output.{script_login, log_after, unread_text, end_text, refused_text}
+use Rattle.fibs_replay.specs.Scripts.{script_lines, SayScript}
 
 -- what may follow the log after so many events: nothing, if memory ran out; or the last line
 abbrev pub IsLast : ℕ → List ℕ → Type 0

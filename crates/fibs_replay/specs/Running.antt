@@ -1,9 +1,9 @@
 -- How far a script was run, and what is printed then. No public contract rests on it.
 use Rattle.std.specs.Prelude.{◌≡◌, ◌++◌, ◌⊎◌, ℕ, Bool, true, List, codes, length, Option, None, Some, Result, Ok, Err}
-use Rattle.fibs_boards.specs.Board.{BoardFields}
+use Rattle.fibs_fields.specs.Board.{BoardFields}
 use Rattle.fibs_model.specs.declared.halt.Stop.{Stop}
 use Rattle.fibs_model.specs.declared.halt.Stop.TheVariants as S
-use Rattle.fibs_machine.specs.declared.refusal.WorldRefusal.TheVariants as W
+use Rattle.fibs_model.specs.declared.machine.refusal.WorldRefusal.TheVariants as W
 use Rattle.fibs_model.specs.Events.{Event}
 use Rattle.fibs_model.specs.Runs.{MayBe, world_after}
 use Rattle.fibs_model.specs.WorldCalls.{WorldStandsAfter, HaltsAt}
@@ -13,7 +13,7 @@ use Rattle.fibs_engine.specs.declared.fault.EngineFault.TheVariants as fault
 use Rattle.std.specs.Io.KnownBytes.{Appends}
 use Rattle.fibs_engine.specs.Printing.{Printed}
 use Rattle.fibs_engine.specs.Writing.{GainedFront}
-use Rattle.fibs_scripts.specs.Output.{script_login, end_text, refused_text, ReplayText, LogOf, IsFor}
+use Rattle.fibs_replay.specs.Output.{script_login, end_text, refused_text, ReplayText, LogOf, IsFor}
 
 -- the world is reached by these events of the user of scripts
 abbrev pub StandsFrom : WorldValue → BoardFields → List Event → Type 0

@@ -1,33 +1,42 @@
 //! Scripts of events, run by the model of a server: `fibs replay` runs one, and prints the log of the world;
 //! `fibs loop` plays one over the sockets of one machine, and prints the same.
+//!
+//! Scripts of events: their lines are read, and what is printed for them is written.
 #![tactic(auto)]
 
 ghost use Rattle.std.specs.Prelude.{◌≡◌, ◌≤◌, ◌+◌, ◌∷◌, ◌⊎◌, ℕ, List, true, length, IfOk, IfSome, IfNone, IsErrOf};
-ghost use Rattle.fibs_boards.specs.Board.{BoardFields, BoardText};
-ghost use Rattle.fibs_boards.specs.StoredBoard.{fields_of};
+ghost use Rattle.fibs_fields.specs.Board.{BoardFields, BoardText};
+ghost use Rattle.fibs_fields.specs.StoredBoard.{fields_of};
 ghost use Rattle.fibs_model.specs.Events.{Event};
 ghost use Rattle.fibs_engine.specs.Printing.{Printed};
 ghost use Rattle.fibs_engine.specs.Reads.{LostAtMost};
 ghost use Rattle.fibs_replay.specs.Carried.{CarriedFor, Carried};
-ghost use Rattle.fibs_scripts.specs.Limits.{read_len};
-ghost use Rattle.fibs_scripts.specs.Output.{LoggedInPart, Replayed, ReplayedInPart, ReplayFailed};
+ghost use Rattle.fibs_replay.specs.Limits.{read_len};
+ghost use Rattle.fibs_replay.specs.Output.{LoggedInPart, Replayed, ReplayedInPart, ReplayFailed};
 ghost use Rattle.fibs_replay.specs.Running.{PrintedFor};
-ghost use Rattle.fibs_scripts.specs.Scripts.{SayScript, script_limit, script_lines};
+ghost use Rattle.fibs_replay.specs.Scripts.{SayScript, script_limit, script_lines};
 
+pub mod events;
+pub mod input;
+pub mod laws;
+pub mod limits;
+pub mod log_lines;
+pub mod output;
 pub mod play_loop;
 pub mod run;
+pub mod script;
 
 use bstr::Lines;
-use fibs_boards::Board;
+use events::read_board;
 use fibs_engine::fault::EngineFault;
 use fibs_engine::status::Status;
 use fibs_engine::writing::write_bytes;
+use fibs_fields::boards::Board;
 use fibs_model::{Carrier, InMemory, World};
-use fibs_scripts::events::read_board;
-use fibs_scripts::input::read_lines;
-use fibs_scripts::output::{LastLine, refused_line, unread_line};
-use fibs_scripts::script::{Script, script_lines};
+use input::read_lines;
+use output::{LastLine, refused_line, unread_line};
 use run::{print_run, run_lines, script_login};
+use script::{Script, script_lines};
 use std::alloc::Global;
 use std::io::{Read, Write};
 

@@ -2,13 +2,13 @@
 
 ghost use Rattle.std.specs.Prelude.{◌+◌, ◌⊎◌, IfOk, IsErrOf};
 ghost use Rattle.fibs_engine.specs.Reads.{LostAtMost};
-ghost use Rattle.fibs_scripts.specs.Limits.{read_len};
-ghost use Rattle.fibs_scripts.specs.Output.{LoggedInPart, Replayed, ReplayedInPart, ReplayFailed};
-ghost use Rattle.fibs_scripts.specs.Scripts.{script_limit};
+ghost use Rattle.fibs_replay.specs.Limits.{read_len};
+ghost use Rattle.fibs_replay.specs.Output.{LoggedInPart, Replayed, ReplayedInPart, ReplayFailed};
+ghost use Rattle.fibs_replay.specs.Scripts.{script_limit};
 
 use crate::replay_over;
-use fibs_carrier::{BothEnds, Sockets};
 use fibs_engine::fault::EngineFault;
+use fibs_model::carriers::{BothEnds, Sockets};
 use std::alloc::Global;
 use std::io::{Read, Write};
 use std::net::{Net, TcpListener, TcpStream};

@@ -1,24 +1,24 @@
 //! The lines of a script are run on a world, and what they led to is printed.
 ghost use Rattle.std.specs.Prelude.{◌≡◌, ◌≢◌, ◌<◌, ◌≤◌, ◌^◌, ◌++◌, List, [], Some, true, codes, length, take, map};
-ghost use Rattle.fibs_boards.specs.Board.{BoardFields};
+ghost use Rattle.fibs_fields.specs.Board.{BoardFields};
 ghost use Rattle.fibs_commands.specs.LoginOf.{name_of, password_of};
 ghost use Rattle.fibs_model.specs.Crossings.{crossings};
 ghost use Rattle.fibs_model.specs.EntryOf.{entry_of};
 ghost use Rattle.fibs_model.specs.Events.{Event};
 ghost use Rattle.fibs_engine.specs.Printing.{Printed};
 ghost use Rattle.fibs_engine.specs.Status.{code_of};
-ghost use Rattle.fibs_scripts.specs.Limits.{write_len};
-ghost use Rattle.fibs_scripts.specs.LogLines.{log_text};
-ghost use Rattle.fibs_scripts.specs.Output.{script_login};
+ghost use Rattle.fibs_replay.specs.Limits.{write_len};
+ghost use Rattle.fibs_replay.specs.LogLines.{log_text};
+ghost use Rattle.fibs_replay.specs.Output.{script_login};
 ghost use Rattle.fibs_replay.specs.Running.{Broke, RanTo, RunPrinted, StandsFrom};
-ghost use Rattle.fibs_scripts.specs.Scripts.{SayEvents};
+ghost use Rattle.fibs_replay.specs.Scripts.{SayEvents};
 
+use crate::events::read_event;
+use crate::output::{end_line, print_log, refused_line};
 use bstr::Lines;
 use fibs_engine::fault::EngineFault;
 use fibs_engine::status::Status;
 use fibs_model::{Carrier, Entry, Stop, World, WorldRefusal};
-use fibs_scripts::events::read_event;
-use fibs_scripts::output::{end_line, print_log, refused_line};
 use fibs_session::Login;
 use std::io::Write;
 

@@ -1,2 +1,4 @@
 pub mod History
 pub mod Calls
+pub mod Typing
+pub mod TypedOf

@@ -4,10 +4,10 @@ ghost use Rattle.std.specs.Prelude.{◌≡◌, IsErr, option_map};
 ghost use Rattle.fibs_session.specs.Calls.FieldSteps.{fresh, open_fields, open_send, open_refusal_of, lose_fields};
 ghost use Rattle.fibs_commands.specs.LoginOf.{login_of};
 
+use crate::histories::Refusal;
 use crate::session::Session;
 use crate::taken::Outstanding;
 use fibs_commands::{CommandText, Login};
-use fibs_history::Refusal;
 
 impl Session {
     ghost use Rattle.fibs_session.specs.Calls.SessionOf.{session_of, ask_of, handed, refusal_in};

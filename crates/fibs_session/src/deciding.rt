@@ -2,19 +2,19 @@
 
 ghost use Rattle.std.specs.Prelude.{◌≡◌, IfOk, IsErr, Some, true};
 ghost use Rattle.std.specs.Result.{result_err};
-ghost use Rattle.fibs_boards.specs.StoredBoard.{fields_of};
+ghost use Rattle.fibs_fields.specs.StoredBoard.{fields_of};
 ghost use Rattle.fibs_position.specs.DecisionValue.{decision_of};
 ghost use Rattle.fibs_session.specs.Calls.FieldSteps.{answer_of, decide_fields, decide_send, may_send_of};
 ghost use Rattle.fibs_session.specs.Calls.FieldSteps.{plain_refusal_of, plain_fields, plain_send, with_plain};
-ghost use Rattle.fibs_history.specs.Allows.{refusal_of};
-ghost use Rattle.fibs_history.specs.Machine.{flag_is_on};
+ghost use Rattle.fibs_session.specs.History.Allows.{refusal_of};
+ghost use Rattle.fibs_session.specs.History.Machine.{flag_is_on};
 ghost use Rattle.fibs_commands.specs.PlainOf.{plain_value};
 
+use crate::histories::{PlainRefusal, Refusal};
 use crate::session::Session;
 use crate::taken::Outstanding;
-use fibs_boards::Board;
 use fibs_commands::{CommandText, Plain, plain_text};
-use fibs_history::{PlainRefusal, Refusal};
+use fibs_fields::boards::Board;
 use fibs_position::{Decision, Disallowed};
 
 /// The refusal of a decision that the board does not allow.

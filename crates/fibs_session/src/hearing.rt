@@ -4,7 +4,7 @@ ghost use Rattle.std.specs.Prelude.{◌≡◌, true, false, None, Some, map, opt
 ghost use Rattle.fibs_lines.specs.Lines.{value_of};
 ghost use Rattle.fibs_messages.specs.Message.{message_of};
 ghost use Rattle.fibs_messages.specs.Line.{reading_of};
-ghost use Rattle.fibs_boards.specs.StoredBoard.{fields_of};
+ghost use Rattle.fibs_fields.specs.StoredBoard.{fields_of};
 ghost use Rattle.fibs_position.specs.DecisionValue.{roll};
 ghost use Rattle.fibs_position.specs.DirectionOf.{direction_of};
 ghost use Rattle.fibs_position.specs.GoodBoard.{good};
@@ -13,16 +13,16 @@ ghost use Rattle.fibs_messages.specs.declared.message.Message.TheVariants.{OwnIn
 ghost use Rattle.fibs_session.specs.Calls.FieldSteps.{message_fields, board_fields, with_shown, differs_from, settled};
 ghost use Rattle.fibs_session.specs.Calls.FieldSteps.{line_fields, unheard, with_roll};
 ghost use Rattle.fibs_session.specs.Calls.SessionValue.{SessionValue};
-ghost use Rattle.fibs_history.specs.Hearing.{initial_commands, line_reading};
+ghost use Rattle.fibs_session.specs.History.Hearing.{initial_commands, line_reading};
 ghost use Rattle.fibs_commands.specs.TextOf.{text_of};
 
 use crate::session::{ServerFlags, Session};
 use crate::taken::Outstanding;
 use arrayvec::ArrayVec;
-use fibs_boards::Board;
 use fibs_commands::{
     AnswerText, autoboard_text, board_text, moreboards_text, roll_text, style_text,
 };
+use fibs_fields::boards::Board;
 use fibs_lines::Line;
 use fibs_messages::{Message, OwnInfo, Reading, is_board_line, message_number};
 use fibs_position::{Decision, GameBoard};

@@ -6,9 +6,9 @@ ghost use Rattle.fibs_position.specs.GameOf.{game_of};
 ghost use Rattle.fibs_session.specs.Calls.FieldSteps.{due_of, due_now, order_refusal_of, withdraw_refusal_of};
 ghost use Rattle.fibs_session.specs.Calls.FieldSteps.{with_order};
 
+use crate::histories::Refusal;
 use crate::session::Session;
-use fibs_boards::fields::MAY_DOUBLE;
-use fibs_history::Refusal;
+use fibs_fields::boards::fields::MAY_DOUBLE;
 use fibs_position::{Decision, GameBoard, Phase};
 
 impl Session {

@@ -4,8 +4,8 @@ ghost use Rattle.std.specs.Prelude.{◌≡◌};
 ghost use Rattle.fibs_commands.specs.TextOf.{text_of};
 
 use arrayvec::ArrayVec;
-use fibs_boards::Board;
 use fibs_commands::{AnswerText, CommandText, decision_text};
+use fibs_fields::boards::Board;
 use fibs_lines::Line;
 use fibs_messages::Reading;
 use fibs_position::{Decision, Direction};
@@ -21,7 +21,7 @@ pub struct Outstanding {
 
 impl Outstanding {
     ghost use Rattle.fibs_session.specs.Calls.SessionOf.{ask_of};
-    ghost use Rattle.fibs_history.specs.Asked.{asked_text};
+    ghost use Rattle.fibs_session.specs.History.Asked.{asked_text};
 
     /// The command of the decision, in the numbers of its board.
     pub fn command(&self) -> CommandText

@@ -1,7 +1,7 @@
 -- The lines of `fibs plays`.
 use Rattle.std.proofs.Common.{◌≡◌, ℕ, List, [], ◌∷◌, sym, arith, subst, inl, inr}
 use Rattle.std.proofs.Common.{Result, Ok, Err, IsErrOf, MatchResult}
-use Rattle.fibs_boards.specs.Board.{BoardFields}
+use Rattle.fibs_fields.specs.Board.{BoardFields}
 use Rattle.fibs_messages.specs.Line.{ReadingValue, board_line}
 use Rattle.fibs_position.specs.First.{IsFirst}
 use Rattle.fibs_position.specs.GoodBoard.{IsGood, HasFault, faults}

@@ -1,2 +1,7 @@
 pub mod Show
 pub mod Plays
+-- What checking a line answered.
+pub mod Checked
+-- What only private functions and proofs say.
+pub mod RightNumbers
+pub mod Standing

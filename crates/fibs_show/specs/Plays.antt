@@ -1,7 +1,7 @@
 -- What `fibs plays` prints for the word that it is given.
 use Rattle.std.specs.Prelude.{◌≡◌, ℕ, zero, List, ◌∷◌, ◌++◌, codes}
 use Rattle.std.specs.List.{flat_map}
-use Rattle.fibs_boards.specs.Board.{BoardFields}
+use Rattle.fibs_fields.specs.Board.{BoardFields}
 use Rattle.fibs_messages.specs.Line.{ReadingValue, board_line, malformed_line}
 use Rattle.fibs_position.specs.DecisionValue.{move}
 use Rattle.fibs_position.specs.First.{IsFirst}

@@ -1,6 +1,7 @@
 //! What is printed of the server's lines: the account of a stream, and the list of a board's plays.
 #![tactic(auto)]
 
+pub mod copied_lines;
 pub mod line;
 mod page;
 pub mod plays;

@@ -3,21 +3,21 @@ ghost use Rattle.std.specs.Prelude.{◌≡◌, ◌++◌, ◌∷◌, [], ℕ, Lis
 ghost use Rattle.std.specs.List.{list_all};
 ghost use Rattle.fibs_lines.specs.Lines.{value_of};
 ghost use Rattle.fibs_lines.specs.Literal.{is_literal};
-ghost use Rattle.fibs_boards.specs.Board.{spelling};
+ghost use Rattle.fibs_fields.specs.Board.{spelling};
 ghost use Rattle.fibs_messages.specs.Line.{IsBoardLine, IsReading, ReadingValue, malformed_line};
 ghost use Rattle.fibs_messages.specs.Message.{canonical};
 ghost use Rattle.fibs_messages.specs.Message.{message_of};
-ghost use Rattle.fibs_boards.specs.StoredBoard.{fields_of};
+ghost use Rattle.fibs_fields.specs.StoredBoard.{fields_of};
 ghost use Rattle.fibs_engine.specs.Escape.{escaped};
 ghost use Rattle.fibs_engine.specs.Readings.{reading_text};
 ghost use Rattle.fibs_show.specs.Show.{ShownLine};
 
+use crate::copied_lines::canonical_line;
+use crate::copied_lines::check::check_board;
 use crate::page::Page;
-use fibs_boards::Board;
-use fibs_copied_lines::canonical_line;
-use fibs_copied_lines::check::check_board;
 use fibs_engine::escape::{append_escaped, escape_from};
 use fibs_engine::malformed::malformed_text;
+use fibs_fields::boards::Board;
 pub use fibs_fields::decimal::append_number;
 use fibs_lines::Line;
 use fibs_messages::{Fault, Message, Reading, is_board_line, message_number, print_message, read};

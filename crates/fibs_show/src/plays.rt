@@ -2,7 +2,7 @@
 ghost use Rattle.std.specs.Prelude.{◌≡◌, ◌≤◌, ◌+◌, ◌++◌, ◌∷◌, [], ℕ, List, length, map, codes, IfOk, IfErr, IsErrOf};
 ghost use Rattle.std.specs.Prelude.{OnErr, OnOk, MatchResult};
 ghost use Rattle.std.specs.Io.KnownBytes.{Appends, Keeps};
-ghost use Rattle.fibs_boards.specs.Board.{BoardFields};
+ghost use Rattle.fibs_fields.specs.Board.{BoardFields};
 ghost use Rattle.fibs_messages.specs.Line.{ReadingValue, board_line, IsReading};
 ghost use Rattle.fibs_position.specs.GoodBoard.{IsGood};
 ghost use Rattle.fibs_rules.specs.PlayValue.{hops_of};

@@ -1,2 +1,3 @@
 pub mod GrownLemmas
 pub mod TryingLemmas
+mod StoryLemmas

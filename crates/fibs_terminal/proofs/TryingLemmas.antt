@@ -2,17 +2,17 @@
 use Rattle.std.proofs.Common.{◌≡◌, ◌≤◌, ◌++◌, ℕ, List, Option, Some, true, false, length, append_assoc}
 use Rattle.std.proofs.Common.{codes, refl, sym, ap, ◌∙◌, inl, arith}
 use Rattle.std.proofs.lemmas.Bool.{false≢true}
-use Rattle.fibs_boards.specs.Board.{BoardFields}
+use Rattle.fibs_fields.specs.Board.{BoardFields}
 use Rattle.fibs_position.specs.DecisionValue.{IsDecision}
 use Rattle.fibs_position.specs.DirectionOf.{direction_of}
 use Rattle.fibs_commands.specs.CommandLaws.{ReadCommandIsExact}
 use Rattle.fibs_commands.specs.CommandReading.{read_command, decision_in, turn_in}
 use Rattle.fibs_commands.specs.PlainReading.{read_plain, plain_in, alone_in, saying_in, letter_in}
 use Rattle.fibs_session.specs.History.Machine.{Talk, shown_now}
-use Rattle.fibs_typed.specs.Typing.{typed_as, typed_now, is_command, order_in, shown_direction}
-use Rattle.fibs_environment.specs.declared.settings.Settings.{Settings}
-use Rattle.fibs_drawing.specs.Drawings.{DrawsBoard, TellsBoard, is_plain, is_worded}
-use Rattle.fibs_front.specs.declared.wish.Wish.TheVariants.{Say}
+use Rattle.fibs_session.specs.Typing.{typed_as, typed_now, is_command, order_in, shown_direction}
+use Rattle.fibs_wording.specs.declared.environment.settings.Settings.{Settings}
+use Rattle.fibs_terminal.specs.Drawings.{DrawsBoard, TellsBoard, is_plain, is_worded}
+use Rattle.fibs_connect.specs.declared.wish.Wish.TheVariants.{Say}
 use Rattle.fibs_advice.specs.Leads.{LeadsTo}
 use Rattle.fibs_advice.specs.Trials.{tried, tried_on}
 use Rattle.fibs_advice.specs.declared.trial.Trial.{Trial}

@@ -2,10 +2,10 @@
 use Rattle.std.specs.Prelude.{◌≡◌, true, false, ℕ, nat_lt, length, List, [], None, Result, IfOk}
 use Rattle.fibs_session.specs.History.Machine.{Talk}
 use Rattle.fibs_session.specs.Calls.Standing.{ClientValue, StandsAfter}
-use Rattle.fibs_typed.specs.Typing.{typed_now, is_command, would_take}
-use Rattle.fibs_front.specs.Wishes.{WishValue, takes_turn, is_too_long, typed_limit}
-use Rattle.fibs_front.specs.declared.wish.Wish.{Wish}
-use Rattle.fibs_front.specs.declared.wish.Wish.TheVariants.{Say, Send}
+use Rattle.fibs_session.specs.Typing.{typed_now, is_command, would_take}
+use Rattle.fibs_connect.specs.Wishes.{WishValue, takes_turn, is_too_long, typed_limit}
+use Rattle.fibs_connect.specs.declared.wish.Wish.{Wish}
+use Rattle.fibs_connect.specs.declared.wish.Wish.TheVariants.{Say, Send}
 
 -- an empty line asks to hear the server; a line that is too long is reported as such
 abbrev pub AsksInBounds : List ℕ → WishValue → Type 0

@@ -3,3 +3,7 @@ pub mod Grown
 pub mod Resting
 pub mod TitleWords
 pub mod Trying
+pub mod Mirrored
+pub mod Played
+pub mod Drawings
+pub mod WatchedDrawings

@@ -1,16 +1,16 @@
 -- A move that the user looks at before it is sent: what `try` shows of it, what `go` sends (the project's own).
 use Rattle.std.specs.Prelude.{◌≡◌, ◌⊎◌, ◌++◌, ℕ, List, [], codes, true, Option, Some, None, IfSome, Result, IfOk}
 use Rattle.std.specs.Io.KnownBytes.{Appends}
-use Rattle.fibs_boards.specs.Board.{BoardFields}
+use Rattle.fibs_fields.specs.Board.{BoardFields}
 use Rattle.fibs_position.specs.DirectionOf.{direction_of}
 use Rattle.fibs_commands.specs.Commands.{command_of}
 use Rattle.fibs_session.specs.History.Machine.{Talk, shown_now, answer_now}
 use Rattle.fibs_session.specs.Calls.Standing.{ClientValue, StandsAfter}
-use Rattle.fibs_typed.specs.Typing.{typed_now, typed_decision}
-use Rattle.fibs_environment.specs.declared.settings.Settings.{Settings}
-use Rattle.fibs_drawing.specs.Drawings.{DrawsBoard, TellsBoard, is_plain, is_worded}
-use Rattle.fibs_front.specs.declared.wish.Wish.{Wish}
-use Rattle.fibs_front.specs.declared.wish.Wish.TheVariants.{Say, Answered}
+use Rattle.fibs_session.specs.Typing.{typed_now, typed_decision}
+use Rattle.fibs_wording.specs.declared.environment.settings.Settings.{Settings}
+use Rattle.fibs_terminal.specs.Drawings.{DrawsBoard, TellsBoard, is_plain, is_worded}
+use Rattle.fibs_connect.specs.declared.wish.Wish.{Wish}
+use Rattle.fibs_connect.specs.declared.wish.Wish.TheVariants.{Say, Answered}
 use Rattle.fibs_advice.specs.Leads.{LeadsTo}
 use Rattle.fibs_advice.specs.Trials.{tried, tried_on}
 use Rattle.fibs_advice.specs.declared.trial.Trial.{Trial}

@@ -2,14 +2,14 @@
 
 use fibs_advice::standing::Standing;
 use fibs_advice::told::Told;
-use fibs_boards::Board;
-use fibs_boards::fields::{MATCH_LENGTH, OTHER_SCORE, OWN_SCORE, UNLIMITED};
-use fibs_environment::Page;
-use fibs_environment::pieces::{append_all, short_name};
+use fibs_fields::boards::Board;
+use fibs_fields::boards::fields::{MATCH_LENGTH, OTHER_SCORE, OWN_SCORE, UNLIMITED};
 use fibs_fields::split::split;
 use fibs_fields::trailing_spaces::without_spaces;
 use fibs_messages::Message;
 use fibs_session::{Directory, DirectoryFault};
+use fibs_wording::environment::Page;
+use fibs_wording::environment::pieces::{append_all, short_name};
 use fibs_wording::invitations::{Invitation, append_invitation, read_invitation};
 use fibs_wording::players::Asker;
 use fibs_wording::saved::{SavedMatches, append_here};

@@ -2,11 +2,11 @@
 
 use crate::screen::Screen;
 use crate::terminal::Terminal;
+use fibs_connect::fault::FrontFault;
 use fibs_engine::writing::write_bytes;
-use fibs_environment::broken::front_of;
-use fibs_environment::pieces::append_all;
-use fibs_environment::{Config, Setting, read_setting};
-use fibs_front::fault::FrontFault;
+use fibs_wording::environment::broken::front_of;
+use fibs_wording::environment::pieces::append_all;
+use fibs_wording::environment::{Config, Setting, read_setting};
 use itoa::Buffer;
 use std::alloc::AllocError;
 use std::io::Write;

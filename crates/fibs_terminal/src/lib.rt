@@ -5,12 +5,14 @@
 mod commands;
 mod company;
 mod configuring;
+pub mod drawing;
 mod listening;
 mod looking;
 mod memory;
 mod people;
 mod resting;
 mod screen;
+pub mod story;
 mod talk;
 mod telling;
 mod terminal;

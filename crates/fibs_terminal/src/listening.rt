@@ -1,16 +1,16 @@
 //! What a terminal shows of what the server sends.
 
+use crate::drawing::Watching;
 use crate::people::Asked;
 use crate::screen::{Moment, Screen};
 use crate::talk::Talk;
 use fibs_advice::row::Row;
 use fibs_advice::told::Told;
-use fibs_drawing::Watching;
-use fibs_environment::Page;
-use fibs_environment::broken::break_at_spaces;
 use fibs_lines::Line;
 use fibs_messages::{Fault, Message, Reading};
 use fibs_position::Phase;
+use fibs_wording::environment::Page;
+use fibs_wording::environment::broken::break_at_spaces;
 use fibs_wording::messages::append_message;
 use fibs_wording::reasons::append_malformed;
 use std::alloc::AllocError;

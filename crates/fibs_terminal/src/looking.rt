@@ -9,15 +9,15 @@ ghost use Rattle.fibs_terminal.specs.Asking.{SendsUntaken};
 ghost use Rattle.fibs_terminal.specs.Trying.{IsTriedNow, SendsTried, ShowsTrial, go_row, tried_command};
 
 use crate::commands::{say_no_game, set_line};
+use crate::drawing::append_picture;
 use fibs_advice::plays::{Listing, append_plays};
 use fibs_advice::trial::Trial;
 use fibs_commands::laws::read_command_is_exact;
-use fibs_drawing::append_picture;
-use fibs_environment::Page;
-use fibs_front::typed_line::TypedLine;
-use fibs_front::wish::Wish;
+use fibs_connect::typed_line::TypedLine;
+use fibs_connect::wish::Wish;
 use fibs_position::Decision;
 use fibs_session::Client;
+use fibs_wording::environment::Page;
 use std::alloc::AllocError;
 
 /// What is said if `plays` is followed by no place.

@@ -1,14 +1,14 @@
 //! What a terminal remembers: only what the client does not know.
 
 use crate::company::Company;
+use crate::drawing::{Boards, Watching};
 use crate::looking::Looking;
 use crate::people::{List, People};
 use crate::resting::Advising;
+use crate::story::Story;
 use crate::talk::Talk;
 use crate::title::Title;
 use fibs_advice::situation::Situation;
-use fibs_drawing::{Boards, Watching};
-use fibs_story::Story;
 use std::alloc::Global;
 use std::time::Duration;
 

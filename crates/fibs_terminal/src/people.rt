@@ -1,10 +1,10 @@
 //! Whose words are hidden, and who was listed.
 
-use fibs_environment::Page;
-use fibs_environment::pieces::short_name;
 use fibs_fields::name::Name;
 use fibs_fields::split::split;
 use fibs_messages::{Message, WhoInfo};
+use fibs_wording::environment::Page;
+use fibs_wording::environment::pieces::short_name;
 use fibs_wording::lists::append_count;
 use fibs_wording::messages::append_player;
 use std::alloc::{AllocError, Global};

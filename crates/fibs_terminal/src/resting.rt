@@ -8,9 +8,9 @@ use fibs_advice::advised::{Advice, Aside, advised};
 use fibs_advice::row::Row;
 use fibs_advice::saying::append_advice;
 use fibs_advice::situation::Situation;
-use fibs_environment::Page;
-use fibs_environment::pieces::short_name;
 use fibs_session::{Client, Directory};
+use fibs_wording::environment::Page;
+use fibs_wording::environment::pieces::short_name;
 use std::alloc::{AllocError, Global};
 use std::time::Duration;
 

@@ -1,7 +1,7 @@
 //! A screen: what a terminal remembers, and the page that is written next.
 
 use crate::memory::Memory;
-use fibs_environment::{Page, Settings};
+use fibs_wording::environment::{Page, Settings};
 use std::alloc::Global;
 use std::time::Duration;
 

@@ -2,11 +2,11 @@
 ghost use Rattle.fibs_terminal.specs.Asking.{SendsUntaken};
 
 use crate::commands::set_line;
-use fibs_environment::Page;
-use fibs_environment::pieces::append_all;
-use fibs_front::typed_line::{TYPED_LIMIT, TypedLine};
-use fibs_front::wish::Wish;
+use fibs_connect::typed_line::{TYPED_LIMIT, TypedLine};
+use fibs_connect::wish::Wish;
 use fibs_session::Client;
+use fibs_wording::environment::Page;
+use fibs_wording::environment::pieces::append_all;
 use std::alloc::{AllocError, Global};
 
 /// How many rows are kept.

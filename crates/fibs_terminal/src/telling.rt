@@ -1,15 +1,15 @@
 //! What a terminal shows of what is reported to it.
 ghost use Rattle.std.specs.Prelude.{◌≡◌};
 
+use crate::drawing::Watching;
 use crate::people::Asked;
 use crate::screen::{Moment, Screen};
 use fibs_advice::plays::Listing;
-use fibs_drawing::Watching;
-use fibs_environment::Page;
-use fibs_environment::pieces::append_all;
-use fibs_front::said::Said;
+use fibs_connect::said::Said;
 use fibs_position::GameBoard;
 use fibs_session::{CommandText, Outstanding, PlainRefusal, Refusal};
+use fibs_wording::environment::Page;
+use fibs_wording::environment::pieces::append_all;
 use fibs_wording::lists::append_row;
 use fibs_wording::reasons::{append_not_sent, append_reason, append_unnoted, refusal_words};
 use itoa::Buffer;

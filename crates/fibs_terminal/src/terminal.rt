@@ -2,22 +2,22 @@
 
 ghost use Rattle.std.specs.Prelude.{◌≡◌, OnOk, IfOk};
 ghost use Rattle.std.specs.Io.KnownBytes.{Appends};
-ghost use Rattle.fibs_front.specs.Wishes.{wish_value};
+ghost use Rattle.fibs_connect.specs.Wishes.{wish_value};
 ghost use Rattle.fibs_terminal.specs.Asking.{AsksInBounds, KnownGoesOn, SendsUntaken};
 ghost use Rattle.fibs_terminal.specs.Grown.{Grown};
 ghost use Rattle.fibs_terminal.specs.Resting.{ShowsAdvice};
 ghost use Rattle.fibs_terminal.specs.Trying.{GoesOn, ShowsTried};
 
 use crate::screen::{Moment, Screen};
+use fibs_connect::fault::FrontFault;
+use fibs_connect::front::Front;
+use fibs_connect::said::Said;
+use fibs_connect::typed_line::TypedLine;
+use fibs_connect::wish::Wish;
+use fibs_connect::words::Words;
 use fibs_engine::writing::write_bytes;
-use fibs_environment::Settings;
-use fibs_front::fault::FrontFault;
-use fibs_front::front::Front;
-use fibs_front::said::Said;
-use fibs_front::typed_line::TypedLine;
-use fibs_front::wish::Wish;
-use fibs_front::words::Words;
 use fibs_session::{Client, Directory};
+use fibs_wording::environment::Settings;
 use std::alloc::Global;
 use std::io::Write;
 use std::time::{Clock, Duration};

@@ -1,12 +1,12 @@
 //! The title of the window in which the terminal is.
 ghost use Rattle.std.specs.Prelude.{◌≡◌, OnOk};
 ghost use Rattle.fibs_position.specs.GameOf.{game_of};
-ghost use Rattle.fibs_words.specs.Titles.{title};
+ghost use Rattle.fibs_picture.specs.InWords.Titles.{title};
 ghost use Rattle.fibs_terminal.specs.TitleWords.{PutsTitle};
 
-use fibs_environment::Page;
+use fibs_picture::in_words::write_title;
 use fibs_position::GameBoard;
-use fibs_words::write_title;
+use fibs_wording::environment::Page;
 use std::alloc::{AllocError, Global};
 
 /// What the title says if no game is shown.

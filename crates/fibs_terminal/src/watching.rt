@@ -1,9 +1,9 @@
 //! What a terminal hears of a game that the user watches.
 
+use crate::drawing::Watching;
 use crate::screen::Screen;
 use fibs_advice::watched::{Seen, read_seen};
-use fibs_boards::Board;
-use fibs_drawing::Watching;
+use fibs_fields::boards::Board;
 use fibs_position::WatchedBoard;
 use std::alloc::AllocError;
 

@@ -2,8 +2,8 @@
 
 use super::outcomes::assert_is;
 use fibs_connect::converse_with;
+use fibs_connect::watch::Unwatched;
 use fibs_engine::dial::Dial;
-use fibs_front::watch::Unwatched;
 use fibs_test_tools::outcome::Outcome;
 use fibs_test_tools::pipe::{After, Pipe, QUIET};
 use fibs_test_tools::text::joined;

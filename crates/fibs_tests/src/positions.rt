@@ -3,7 +3,7 @@
 use crate::boards::{
     FOUR_ONES, ONE_STEP, PASSING, TO_ANSWER, TO_BEAR_OFF, TO_HIT, TO_MOVE_UP, TO_ROLL, TWO_ORDERS,
 };
-use fibs_boards::Board;
+use fibs_fields::boards::Board;
 use fibs_position::{Decision, Position, Stake};
 use std::alloc::Global;
 use std::process::Abort;

@@ -1,8 +1,8 @@
 //! What is ready first, on real sockets: one of them stands for what is typed.
 
-use fibs_front::watch::{First, Watch};
+use fibs_connect::waiting::{PollWatch, WatchedNet};
+use fibs_connect::watch::{First, Watch};
 use fibs_test_tools::named::Named;
-use fibs_watch::{PollWatch, WatchedNet};
 use mio::{Events, Poll};
 use std::io;
 use std::io::{Read, Write};

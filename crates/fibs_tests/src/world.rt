@@ -2,7 +2,7 @@
 
 use crate::boards::{MUST_ROLL, ROLLED};
 use crate::lines::{INFO, INFO_NO_BOARDS, WELCOME};
-use fibs_boards::Board;
+use fibs_fields::boards::Board;
 use fibs_model::{Event, World, WorldRefusal};
 use fibs_position::Decision;
 use fibs_session::Login;

@@ -1,2 +1,3 @@
 pub mod Invitations
 pub mod SavedMatches
+pub mod Broken

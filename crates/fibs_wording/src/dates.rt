@@ -1,7 +1,7 @@
 //! Dates and times in words.
 
-use fibs_environment::pieces::append_all;
-use fibs_environment::{ClockTime, Zone};
+use crate::environment::pieces::append_all;
+use crate::environment::{ClockTime, Zone};
 use fibs_fields::decimal::append_number;
 use std::alloc::AllocError;
 

@@ -5,7 +5,7 @@ ghost use Rattle.fibs_wording.specs.Invitations.{invitation_said, offer_said, sa
 ghost use Rattle.fibs_wording.specs.Invitations.{experience_words, invitation_words, known_words, offer_words};
 ghost use Rattle.fibs_wording.specs.Invitations.{points_words, rated_words};
 
-use fibs_environment::pieces::short_name;
+use crate::environment::pieces::short_name;
 use fibs_fields::decimal::{append_number, read_decimal};
 use fibs_fields::name::Name;
 use fibs_fields::rating::append_rating;

@@ -2,6 +2,7 @@
 #![tactic(auto)]
 
 pub mod dates;
+pub mod environment;
 pub mod help;
 pub mod invitations;
 pub mod lists;

@@ -1,8 +1,8 @@
 //! A player in a row, and how many players there are.
 
+use crate::environment::pieces::short_name;
+use crate::environment::shown::pad_from;
 use crate::messages::append_state;
-use fibs_environment::pieces::short_name;
-use fibs_environment::shown::pad_from;
 use fibs_fields::decimal::append_number;
 use fibs_fields::rating::append_rating;
 use fibs_session::Player;

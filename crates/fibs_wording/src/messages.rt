@@ -1,8 +1,8 @@
 //! The words of messages.
 use crate::dates::{append_date, append_time};
-use fibs_environment::Settings;
-use fibs_environment::pieces::{append_all, break_row, short_name};
-use fibs_environment::shown::append_shown;
+use crate::environment::Settings;
+use crate::environment::pieces::{append_all, break_row, short_name};
+use crate::environment::shown::append_shown;
 use fibs_fields::decimal::append_number;
 use fibs_fields::rating::append_rating;
 use fibs_messages::{Message, OwnInfo, WhoInfo};

@@ -1,9 +1,9 @@
 //! The players that a terminal lists: those that were asked for, and no more than a screen has room for.
 
+use crate::environment::shown::{append_shown, pad_from};
 use crate::lists::append_count;
 use crate::messages::append_state;
 use crate::saved::SavedMatches;
-use fibs_environment::shown::{append_shown, pad_from};
 use fibs_fields::decimal::append_number;
 use fibs_fields::rating::append_rating;
 use fibs_session::{Directory, Player};

@@ -1,6 +1,6 @@
 //! Why something was not done, in words. The number and the name follow in brackets.
 
-use fibs_environment::pieces::append_all;
+use crate::environment::pieces::append_all;
 use fibs_messages::Fault;
 use fibs_session::{DirectoryFault, PlainFault, PlainRefusal, Refusal};
 use itoa::Buffer;

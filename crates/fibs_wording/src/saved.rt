@@ -2,8 +2,8 @@
 ghost use Rattle.std.specs.Prelude.{◌≡◌, ◌++◌, OnOk};
 ghost use Rattle.fibs_wording.specs.SavedMatches.{here_words, length_words, match_words, score_words};
 
-use fibs_boards::fields::UNLIMITED;
-use fibs_environment::pieces::short_name;
+use crate::environment::pieces::short_name;
+use fibs_fields::boards::fields::UNLIMITED;
 use fibs_fields::decimal::{append_number, read_decimal};
 use fibs_fields::name::Name;
 use fibs_fields::split::split;

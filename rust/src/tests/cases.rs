@@ -1,6 +1,6 @@
 //! A board with the view of its player and its later boards, and the test of such cases.
 
-use crate::fibs_boards::Board;
+use crate::fibs_fields::boards::Board;
 use crate::fibs_position::{Decision, Direction, Phase, Position, effect};
 use crate::tests::choices::Choice;
 

@@ -1,7 +1,7 @@
 //! Worked rows of a client, and what neither the built program nor the library for C shows of sessions and clients.
 //! More histories, worked out by hand, are told to a client in Python: tests/worlds.
 
-use crate::fibs_boards::Board;
+use crate::fibs_fields::boards::Board;
 use crate::fibs_lines::Line;
 use crate::fibs_messages::Reading;
 use crate::fibs_position::Decision;

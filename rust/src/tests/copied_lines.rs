@@ -1,8 +1,8 @@
 //! Lines that are copied as they stand, and those that are not: messages, and boards.
 
-use crate::fibs_boards::Board;
-use crate::fibs_copied_lines::canonical_line;
-use crate::fibs_copied_lines::check::check_board;
+use crate::fibs_fields::boards::Board;
+use crate::fibs_show::copied_lines::canonical_line;
+use crate::fibs_show::copied_lines::check::check_board;
 use crate::tests::boards::{AS_SENT, FIELDS, line_with};
 use crate::tests::messages::printed;
 

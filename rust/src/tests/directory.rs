@@ -1,6 +1,6 @@
 //! Directories: a worked row, and what the library for C does not show. The rest is in tests/rows and tests/c.
 
-use crate::fibs_directory::{Directory, DirectoryFault};
+use crate::fibs_messages::directory::{Directory, DirectoryFault};
 use crate::fibs_messages::{Reading, read};
 
 /// A directory takes note of a line, if it is a message.

@@ -1,6 +1,6 @@
 //! What of boards, names and numbers the library for C does not show. Worked lines are read in tests/rows.
 
-use crate::fibs_boards::Board;
+use crate::fibs_fields::boards::Board;
 use crate::fibs_messages::laws::{print_reads_back, prints_tell_boards};
 use crate::fibs_messages::{Fault, FieldFault, Name, read_decimal, split};
 use crate::rattle::may::*;

@@ -1,6 +1,6 @@
 //! A few boards that are known completely: their positions, and their later boards.
 
-use crate::fibs_boards::Board;
+use crate::fibs_fields::boards::Board;
 use crate::fibs_position::{Decision, Direction, Disallowed, Phase, Position, Stake, WatchedBoard, effect};
 use crate::tests::boards::{AS_SENT, DOUBLED, PASSING, TO_ANSWER, TO_BEAR_OFF, TO_HIT, TO_MOVE, TO_ROLL};
 use crate::tests::cases::{Case, check};

@@ -1,7 +1,7 @@
 //! Worked rows of positions: the phase, how many dice are played at most, the plays, and what may be decided; and the
 //! answers to boards that have no position, or another player.
 
-use crate::fibs_boards::Board;
+use crate::fibs_fields::boards::Board;
 use crate::fibs_position::{Decision, Disallowed, Phase, Play, Position, Stake, differs, effect};
 use crate::tests::boards::{
     FOUR_ONES, ONE_STEP, PASSING, TO_ANSWER, TO_BEAR_OFF, TO_HIT, TO_MOVE_UP, TO_ROLL, TWO_ORDERS,

@@ -1,6 +1,6 @@
 //! What the server answers, worked out by hand from the rules, and what its refusals are called.
 
-use crate::fibs_boards::Board;
+use crate::fibs_fields::boards::Board;
 use crate::fibs_model::{Served, Server, WorldRefusal};
 use crate::fibs_position::{Decision, Direction, PositionFault};
 use crate::fibs_session::decision_text;

@@ -1,7 +1,7 @@
 //! A worked row of the world, and what no script can say of it: a text of more than one line, and how it goes on
 //! after a refused growth. More histories, worked out by hand, are told by the built program: tests/worlds.
 
-use crate::fibs_boards::Board;
+use crate::fibs_fields::boards::Board;
 use crate::fibs_model::{Event, World, WorldRefusal};
 use crate::fibs_position::Decision;
 use crate::fibs_session::Login;

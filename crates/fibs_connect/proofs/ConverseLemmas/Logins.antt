@@ -13,8 +13,8 @@ use Rattle.std.specs.Borrow.{MutBor}
 use Rattle.std.specs.Io.KnownBytes.{Keeps, prepend_known}
 use Rattle.std.proofs.KnownBytes.{Keeps-refl}
 use Rattle.fibs_engine.specs.declared.fault.EngineFault.{EngineFault}
-use Rattle.fibs_front.specs.TypedLines.{typed_line}
-use Rattle.fibs_front.specs.TypedReads.{TakesLine}
+use Rattle.fibs_connect.specs.TypedLines.{typed_line}
+use Rattle.fibs_connect.specs.TypedReads.{TakesLine}
 use Rattle.fibs_connect.specs.Converse.Ending.{EndsBy, ConversedOver}
 
 -- a password of more than 64 bytes is too long

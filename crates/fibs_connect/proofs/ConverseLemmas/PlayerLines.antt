@@ -2,7 +2,7 @@
 use Rattle.std.proofs.Common.{◌≡◌, ℕ, zero, suc, ◌+◌, List, [], ◌∷◌, ◌++◌, take, slice_get, Some}
 use Rattle.std.proofs.Common.{ap, ◌∙◌, add-one}
 use Rattle.fibs_messages.specs.Message.{MessageValue}
-use Rattle.fibs_front.specs.Told.{SaidValue, player_said}
+use Rattle.fibs_connect.specs.Told.{SaidValue, player_said}
 use Rattle.fibs_connect.specs.Converse.Players.{players_told}
 
 -- the first n

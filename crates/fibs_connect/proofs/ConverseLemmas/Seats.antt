@@ -2,11 +2,11 @@
 use Rattle.std.proofs.Common.{◌≡◌, ℕ, suc, true, false, not, cond, nat_eq, List, [], ◌∷◌, Option, None, Some}
 use Rattle.std.proofs.Common.{inl, refl, sym, ap, subst, ◌∙◌, arith}
 use Rattle.fibs_messages.specs.Message.{MessageValue}
-use Rattle.fibs_front.specs.Told.{SaidValue, Joins, opened_said}
+use Rattle.fibs_connect.specs.Told.{SaidValue, Joins, opened_said}
 use Rattle.fibs_session.specs.declared.taken.Outstanding.{Outstanding}
-use Rattle.fibs_exchange.specs.Turns.Script.{outside}
+use Rattle.fibs_connect.specs.Turns.Script.{outside}
 use Rattle.fibs_connect.specs.Converse.Seats.{TakesTurn, Connects, Opens, OpensAndLoses, seat_of}
-use Rattle.fibs_directory.specs.Directory.{IsDirectory}
+use Rattle.fibs_messages.specs.Directory.{IsDirectory}
 use Rattle.std.specs.Prelude.{IsSome, OnOk, Result, Ok, Err}
 use Rattle.std.proofs.lemmas.Bool.{ne_eqb}
 use Rattle.fibs_session.specs.History.Log.{Opened}
@@ -14,12 +14,12 @@ use Rattle.fibs_session.specs.History.Words.{connections}
 use Rattle.fibs_session.specs.History.Machine.{Talk, Open, Lose, step, stays, opened, is_online}
 use Rattle.fibs_session.specs.Calls.Standing.{ClientValue, StandsAfter}
 use Rattle.fibs_session.specs.Calls.Doing.{Does}
-use Rattle.fibs_exchange.specs.declared.Ending.{Ending}
-use Rattle.fibs_exchange.specs.declared.Ending.TheVariants.{Quiet, Lost}
+use Rattle.fibs_connect.specs.declared.turns.Ending.{Ending}
+use Rattle.fibs_connect.specs.declared.turns.Ending.TheVariants.{Quiet, Lost}
 use Rattle.fibs_engine.specs.Writing.{Broken}
-use Rattle.fibs_exchange.specs.Turns.Turn.{FitsStream, LeavesAs, TurnedBy, is_there, still_given}
-use Rattle.fibs_exchange.proofs.TurnLemmas.Turns.{loses_offline}
-use Rattle.fibs_history.proofs.Past.{open_append}
+use Rattle.fibs_connect.specs.Turns.Turn.{FitsStream, LeavesAs, TurnedBy, is_there, still_given}
+use Rattle.fibs_connect.proofs.TurnLemmas.Turns.{loses_offline}
+use Rattle.fibs_session.proofs.History.Past.{open_append}
 
 -- offline it opens
 opens_online : (t : Talk) → is_online t ≡ false → is_online (step t Open).talk ≡ true

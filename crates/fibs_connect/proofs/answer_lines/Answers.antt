@@ -1,4 +1,4 @@
-use Rattle.fibs_front.proofs.TypedLemmas.Spent.{spends_nothing, spends_more}
+use Rattle.fibs_connect.proofs.TypedLemmas.Spent.{spends_nothing, spends_more}
 use Rattle.std.proofs.Common.{refl}
 use Rattle.fibs_connect.proofs.answer_lines.Goals.{in-Heard+in_ok-take_turn-in-Heard}
 use Rattle.fibs_connect.proofs.answer_lines.Goals.{in-Typed+in_ok-wish-in-Typed+in_ok-answer-in-Typed+in_default}

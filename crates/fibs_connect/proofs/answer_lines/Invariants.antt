@@ -1,5 +1,5 @@
-use Rattle.fibs_exchange.specs.Turns.Turn.{FitsStream, is_there}
-use Rattle.fibs_front.specs.TypedReads.{SpendsReads}
+use Rattle.fibs_connect.specs.Turns.Turn.{FitsStream, is_there}
+use Rattle.fibs_connect.specs.TypedReads.{SpendsReads}
 use Rattle.fibs_connect.proofs.answer_lines.Given as goal
 
 -- the client is online exactly if there is a connection; and no more was read than the reads may give that were made

@@ -3,7 +3,7 @@ use Rattle.std.specs.Result.{result_err}
 use Rattle.std.proofs.KnownBytes.{Keeps-refl}
 use Rattle.fibs_commands.specs.Logins.{login_fault}
 use Rattle.fibs_connect.proofs.ConverseLemmas.Logins.{conversed_by}
-use Rattle.fibs_front.proofs.TypedLemmas.Spent.{spends_more, spends_few}
+use Rattle.fibs_connect.proofs.TypedLemmas.Spent.{spends_more, spends_few}
 use Rattle.fibs_connect.proofs.converse_on.Goals as goal
 
 pub returns-in-Err-clause-conversed : goal.returns-in-Err-clause-conversed

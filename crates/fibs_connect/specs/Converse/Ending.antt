@@ -5,8 +5,8 @@ use Rattle.fibs_commands.specs.Logins.{login_fault}
 use Rattle.fibs_commands.specs.PlainFaults.{plain_fault_number, plain_fault_name}
 use Rattle.fibs_commands.specs.declared.plain.PlainFault.{PlainFault}
 use Rattle.fibs_engine.specs.Printing.{line_bytes}
-use Rattle.fibs_front.specs.Lines.{reason_line}
-use Rattle.fibs_front.specs.TypedLines.{typed_line}
+use Rattle.fibs_connect.specs.Lines.{reason_line}
+use Rattle.fibs_connect.specs.TypedLines.{typed_line}
 use Rattle.fibs_engine.specs.declared.fault.EngineFault.{EngineFault}
 use Rattle.fibs_engine.specs.declared.fault.EngineFault.TheVariants as fault
 

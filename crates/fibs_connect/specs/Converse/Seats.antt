@@ -3,18 +3,18 @@ use Rattle.std.specs.Prelude.{◌≡◌, ◌⊎◌, ◌<◌, ◌≤◌, ℕ, Boo
 use Rattle.std.specs.Io.KnownBytes.{Appends, Keeps}
 use Rattle.std.specs.declared.io.ErrorKind.{ErrorKind}
 use Rattle.fibs_messages.specs.Message.{MessageValue}
-use Rattle.fibs_directory.specs.Directory.{IsDirectory}
+use Rattle.fibs_messages.specs.Directory.{IsDirectory}
 use Rattle.fibs_session.specs.History.Machine.{Talk, Open, step, is_online, on_wire}
 use Rattle.fibs_session.specs.Calls.Standing.{ClientValue, StandsAfter}
-use Rattle.fibs_exchange.specs.declared.Ending.{Ending}
-use Rattle.fibs_front.specs.Told.{SaidValue, refused_said, unknown_said, opened_said, no_connection_said, passed_said}
-use Rattle.fibs_history.specs.declared.refusal.Refusal.TheVariants.{AlreadyOpen, Offline}
+use Rattle.fibs_connect.specs.declared.turns.Ending.{Ending}
+use Rattle.fibs_connect.specs.Told.{SaidValue, refused_said, unknown_said, opened_said, no_connection_said, passed_said}
+use Rattle.fibs_session.specs.declared.histories.refusal.Refusal.TheVariants.{AlreadyOpen, Offline}
 use Rattle.fibs_engine.specs.Writing.{Wrote, Broken}
-use Rattle.fibs_exchange.specs.Turns.Script.{outside}
-use Rattle.fibs_exchange.specs.Turns.Turn.{TurnedBy, Ended, still_given}
+use Rattle.fibs_connect.specs.Turns.Script.{outside}
+use Rattle.fibs_connect.specs.Turns.Turn.{TurnedBy, Ended, still_given}
 use Rattle.fibs_connect.specs.Converse.Players.{players_told}
-use Rattle.fibs_front.specs.Wishes.{WishValue, connects, lists_players, ends, is_too_long, takes_turn, passes}
-use Rattle.fibs_front.specs.Wishes.{is_answered, typed_limit}
+use Rattle.fibs_connect.specs.Wishes.{WishValue, connects, lists_players, ends, is_too_long, takes_turn, passes}
+use Rattle.fibs_connect.specs.Wishes.{is_answered, typed_limit}
 use Rattle.fibs_connect.specs.declared.seat.Going.{Going}
 use Rattle.fibs_connect.specs.declared.seat.Going.TheVariants.{On, Away}
 

@@ -5,12 +5,12 @@ use Rattle.std.specs.Bool.{Decides}
 use Rattle.std.specs.Str.{bytes_eq}
 use Rattle.std.proofs.lemmas.Bool.Decides.{Decides-eqb, Decides-and, Decides-like}
 use Rattle.std.proofs.lemmas.Slice.Eq.{bytes_eq-Decides}
-use Rattle.fibs_boards.specs.Board.{BoardFields}
+use Rattle.fibs_fields.specs.Board.{BoardFields}
 use Rattle.fibs_fields.specs.Faults.{fault_number}
 use Rattle.fibs_messages.specs.Line.{ReadingValue, numbered_line, board_line, text_line, malformed_line, reading_of}
 use Rattle.fibs_messages.specs.Message.{MessageValue, message_of}
-use Rattle.fibs_boards.specs.StoredBoard.{fields_of}
-use Rattle.fibs_boards.specs.contracts.board.BoardPartialEq.TheImpl.{eq-value as board_eq}
+use Rattle.fibs_fields.specs.StoredBoard.{fields_of}
+use Rattle.fibs_fields.specs.contracts.boards.board.BoardPartialEq.TheImpl.{eq-value as board_eq}
 use Rattle.fibs_fields.specs.contracts.fault.FaultPartialEq.TheImpl.{eq-value as fault_eq}
 use Rattle.fibs_messages.specs.contracts.line.ReadingPartialEq.TheImpl.{eq-value as reading_eq}
 use Rattle.fibs_messages.specs.contracts.message.MessagePartialEq.TheImpl.{eq-value as message_eq}
@@ -18,7 +18,7 @@ use Rattle.fibs_fields.specs.declared.fault.Fault.{Fault}
 use Rattle.fibs_fields.specs.declared.fault.Fault.TheVariants.{Missing, Extra, NotANumber, OutOfRange, BadName}
 use Rattle.fibs_messages.specs.declared.line.Reading.{Reading}
 use Rattle.fibs_messages.specs.declared.line.Reading.TheVariants.{Numbered, Board, Text, Malformed}
-use Rattle.fibs_boards.proofs.BoardLemmas.BoardEquality.{boards_decide}
+use Rattle.fibs_fields.proofs.BoardLemmas.BoardEquality.{boards_decide}
 use Rattle.fibs_fields.proofs.FieldLemmas.Equality.{never}
 use Rattle.fibs_messages.proofs.MessageLemmas.MessageEquality.{messages_decide}
 

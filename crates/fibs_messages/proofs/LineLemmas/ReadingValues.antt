@@ -10,9 +10,9 @@ use Rattle.fibs_fields.specs.declared.values.Values.{Values}
 use Rattle.fibs_fields.specs.declared.fault.FieldFault.{FieldFault}
 use Rattle.fibs_fields.specs.Decimal.{number_in}
 use Rattle.fibs_fields.specs.DecimalReading.{IsNarrow}
-use Rattle.fibs_boards.specs.Board.{BoardFields, IsBoard, BoardText, Wrong, Fit, field_values, kinds, pieces, texts}
+use Rattle.fibs_fields.specs.Board.{BoardFields, IsBoard, BoardText, Wrong, Fit, field_values, kinds, pieces, texts}
 use Rattle.fibs_fields.specs.Spaces.{without_spaces}
-use Rattle.fibs_boards.specs.BoardReading.{first_fault}
+use Rattle.fibs_fields.specs.BoardReading.{first_fault}
 use Rattle.fibs_fields.specs.Split.{before, after}
 use Rattle.fibs_fields.specs.Field.{FieldValue}
 use Rattle.fibs_fields.specs.FieldReading.{fields_at, left}
@@ -20,10 +20,10 @@ use Rattle.fibs_messages.specs.LineReading.{IsAsRead}
 use Rattle.fibs_messages.specs.Message.{kinds_of, kept, number_word, HasNumber}
 use Rattle.fibs_messages.specs.Line.{board_line, IsReading, number_or_0, numbers_in, board_in, board_reading}
 use Rattle.fibs_messages.specs.Line.{message_reading, other_reading, reading_value, IsOfNumber, ReadingIsExact}
-use Rattle.fibs_boards.proofs.BoardLemmas.FieldTable.{all_narrow}
+use Rattle.fibs_fields.proofs.BoardLemmas.FieldTable.{all_narrow}
 use Rattle.fibs_fields.proofs.NumberLemmas.Spelled.{number_in-written}
-use Rattle.fibs_boards.proofs.BoardLemmas.BoardTexts.{pieces_of_board, texts_right, first_from_wrong}
-use Rattle.fibs_boards.proofs.BoardLemmas.EachLine.{board_or_wrong}
+use Rattle.fibs_fields.proofs.BoardLemmas.BoardTexts.{pieces_of_board, texts_right, first_from_wrong}
+use Rattle.fibs_fields.proofs.BoardLemmas.EachLine.{board_or_wrong}
 use Rattle.fibs_messages.proofs.LineLemmas.Readings.{is_reading}
 use Rattle.fibs_messages.proofs.MessageLemmas.MessageReadings.{board_not_numbered, has_number, number_of}
 

@@ -1,7 +1,7 @@
 -- A line has one reading.
 use Rattle.std.proofs.Common.{inl, inr, None, ◌≡◌, ℕ, List, sym, ap, ◌∙◌, subst, refl}
 use Rattle.std.specs.Prelude.{◌↔◌}
-use Rattle.fibs_boards.specs.Board.{BoardFields, BoardText}
+use Rattle.fibs_fields.specs.Board.{BoardFields, BoardText}
 use Rattle.fibs_messages.specs.Line.{IsBoardLine, IsMalformed, IsText, ReadingValue, numbered_line, board_line}
 use Rattle.fibs_messages.specs.Line.{text_line, malformed_line, IsReading}
 use Rattle.fibs_messages.specs.LineReading.{IsAsRead}
@@ -12,7 +12,7 @@ use Rattle.fibs_messages.proofs.MessageLemmas.MessageReadings.{one_message, mess
 use Rattle.fibs_messages.proofs.MessageLemmas.MessageReadings.{message_numbered, board_not_numbered, number_of}
 use Rattle.fibs_messages.proofs.MessageLemmas.MessageReadings.{reads_wrong}
 use Rattle.fibs_fields.specs.declared.fault.Fault.{Fault}
-use Rattle.fibs_boards.proofs.BoardLemmas.EachLine.{one_board, one_fault, not_both}
+use Rattle.fibs_fields.proofs.BoardLemmas.EachLine.{one_board, one_fault, not_both}
 use Rattle.fibs_fields.proofs.FieldLemmas.Options.{some_none}
 
 -- a line that says a board is a board line

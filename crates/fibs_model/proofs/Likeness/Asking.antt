@@ -1,38 +1,38 @@
 -- The client hands out commands.
 use Rattle.std.proofs.Common.{◌≡◌, ◌<◌, ℕ, List, [], ◌∷◌, ◌++◌, Option, Some, None, length, refl, sym, ap, subst, ◌∙◌}
 use Rattle.std.proofs.Common.{arith, append-nil, map}
-use Rattle.fibs_boards.specs.Board.{BoardFields}
+use Rattle.fibs_fields.specs.Board.{BoardFields}
 use Rattle.fibs_position.specs.DecisionValue.{DecisionValue}
 use Rattle.fibs_position.specs.GamePart.{same_game}
 use Rattle.fibs_commands.specs.PlainCommands.{PlainValue, plain_of}
-use Rattle.fibs_history.specs.declared.refusal.Refusal.{Refusal}
-use Rattle.fibs_history.specs.declared.refusal.PlainRefusal.{PlainRefusal}
-use Rattle.fibs_history.specs.Log.{Entry, Clicked, Sent, Ordered, Withdrawn}
-use Rattle.fibs_history.specs.Words.{open_from, open_now, answer}
-use Rattle.fibs_history.specs.Allows.{allows}
-use Rattle.fibs_history.specs.Machine.{Talk, answer_now, shown_now, clicks_by, decides_on}
-use Rattle.fibs_history.specs.Machine.{plain_refusal, order_refusal, withdraw_refusal, wire_of}
-use Rattle.fibs_history.specs.Machine.{sends_plain as talk_sends_plain}
-use Rattle.fibs_history.specs.Machine as M
+use Rattle.fibs_session.specs.declared.histories.refusal.Refusal.{Refusal}
+use Rattle.fibs_session.specs.declared.histories.refusal.PlainRefusal.{PlainRefusal}
+use Rattle.fibs_session.specs.History.Log.{Entry, Clicked, Sent, Ordered, Withdrawn}
+use Rattle.fibs_session.specs.History.Words.{open_from, open_now, answer}
+use Rattle.fibs_session.specs.History.Allows.{allows}
+use Rattle.fibs_session.specs.History.Machine.{Talk, answer_now, shown_now, clicks_by, decides_on}
+use Rattle.fibs_session.specs.History.Machine.{plain_refusal, order_refusal, withdraw_refusal, wire_of}
+use Rattle.fibs_session.specs.History.Machine.{sends_plain as talk_sends_plain}
+use Rattle.fibs_session.specs.History.Machine as M
 use Rattle.fibs_session.specs.Calls.ClientLaws.{ServersEntriesAreSilent}
 use Rattle.fibs_session.specs.Calls.Standing.{StandsAfter}
 use Rattle.fibs_session.specs.Calls.Doing.{Does}
-use Rattle.fibs_model_server.specs.EntryOf.{entry_of}
-use Rattle.fibs_model_server.specs.declared.entry.Entry as C
-use Rattle.fibs_machine.specs.Talks.{input_of}
-use Rattle.fibs_machine.specs.Refusals.{refusal}
+use Rattle.fibs_model.specs.EntryOf.{entry_of}
+use Rattle.fibs_model.specs.declared.entry.Entry as C
+use Rattle.fibs_model.specs.Talks.{input_of}
+use Rattle.fibs_model.specs.Refusals.{refusal}
 use Rattle.fibs_model.specs.Calls.{ask_links, click_entries, unless_refused}
-use Rattle.fibs_machine.specs.Events.{Event, Click, Plain, Order, Withdraw}
+use Rattle.fibs_model.specs.Events.{Event, Click, Plain, Order, Withdraw}
 use Rattle.fibs_model.specs.LinksOf.{LinkValue, kept_of, link_at, set_link}
-use Rattle.fibs_machine.specs.Server.{command}
+use Rattle.fibs_model.specs.Server.{command}
 use Rattle.fibs_model.specs.WireLinks.{more_asked}
-use Rattle.fibs_machine.specs.World.{World, after, noted, linked, asks, clicks, sends_out, sends_plain, notes_unless}
-use Rattle.fibs_machine.specs.World.{talk_of}
+use Rattle.fibs_model.specs.World.{World, after, noted, linked, asks, clicks, sends_out, sends_plain, notes_unless}
+use Rattle.fibs_model.specs.World.{talk_of}
 use Rattle.fibs_model.specs.WorldOf.{WorldValue, StandsFor, Goes}
-use Rattle.fibs_history.proofs.Words.{yes}
-use Rattle.fibs_machine.proofs.joint.EachEvent.{said}
-use Rattle.fibs_history.proofs.Past.{open_append}
-use Rattle.fibs_machine.specs.Wires as whole
+use Rattle.fibs_session.proofs.History.Words.{yes}
+use Rattle.fibs_model.proofs.joint.EachEvent.{said}
+use Rattle.fibs_session.proofs.History.Past.{open_append}
+use Rattle.fibs_model.specs.Wires as whole
 use Rattle.fibs_model.proofs.Likeness.Links.{links_linked, length_set_link}
 use Rattle.fibs_model.proofs.Likeness.Events.{current_known, client_after, sound_after}
 

@@ -2,20 +2,20 @@
 use Rattle.std.proofs.Common.{◌≡◌, ◌↔◌, ℕ, Bool, true, false, List, [], Some, None, length, if◌then◌else◌, zero, suc}
 use Rattle.std.proofs.Common.{refl, sym, ap, subst, ◌∙◌}
 use Rattle.std.specs.Prelude.{Result, Err, IsOk}
-use Rattle.fibs_boards.specs.Board.{BoardFields}
+use Rattle.fibs_fields.specs.Board.{BoardFields}
 use Rattle.fibs_position.specs.GoodBoard.{IsGood, good}
 use Rattle.fibs_position.specs.Laws.{GoodIsExact}
 use Rattle.fibs_session.specs.Calls.Standing.{StandsAfter}
-use Rattle.fibs_history.specs.Machine as M
+use Rattle.fibs_session.specs.History.Machine as M
 use Rattle.fibs_commands.specs.Logins.{IsLogin, login_text}
 use Rattle.fibs_model.specs.LinksOf.{kept_of, link_at}
-use Rattle.fibs_machine.specs.Runs.{MayBe, world_after}
-use Rattle.fibs_machine.specs.Wires.{empty_link}
-use Rattle.fibs_machine.specs.World.{start}
+use Rattle.fibs_model.specs.Runs.{MayBe, world_after}
+use Rattle.fibs_model.specs.Wires.{empty_link}
+use Rattle.fibs_model.specs.World.{start}
 use Rattle.fibs_model.specs.WorldCalls.{WorldStandsAfter}
 use Rattle.fibs_model.specs.WorldOf.{WorldValue, StandsFor}
-use Rattle.fibs_machine.specs.declared.refusal.WorldRefusal.TheVariants.{BadBoard}
-use Rattle.fibs_machine.proofs.Projection.{talk_is_projected}
+use Rattle.fibs_model.specs.declared.machine.refusal.WorldRefusal.TheVariants.{BadBoard}
+use Rattle.fibs_model.proofs.Projection.{talk_is_projected}
 
 -- it corresponds to the machine's
 pub new_stands : (v : WorldValue) (login : List ℕ) (b : BoardFields) → v.server.board ≡ b → v.server.logged_in ≡ 0

@@ -7,31 +7,31 @@ use Rattle.std.proofs.lemmas.List.{append_cancel_left}
 use Rattle.std.proofs.lemmas.Bool.Decides.{eqb_tells}
 use Rattle.fibs_session.specs.Calls.Doing.{Does}
 use Rattle.fibs_session.specs.Calls.Standing.{ClientValue}
-use Rattle.fibs_history.specs.Log.{Entry}
-use Rattle.fibs_history.specs.Machine.{Talk, Piece, step, wire_of}
-use Rattle.fibs_history.specs.Machine as M
+use Rattle.fibs_session.specs.History.Log.{Entry}
+use Rattle.fibs_session.specs.History.Machine.{Talk, Piece, step, wire_of}
+use Rattle.fibs_session.specs.History.Machine as M
 use Rattle.fibs_session.specs.Calls.ClientLaws.{ServersEntriesAreSilent}
-use Rattle.fibs_history.specs.Owing.{owed, entries_owed}
-use Rattle.fibs_history.specs.Words.{open_now}
-use Rattle.fibs_machine.specs.Talks.{Steps}
-use Rattle.fibs_machine.specs.Events.{Deliver}
+use Rattle.fibs_session.specs.History.Owing.{owed, entries_owed}
+use Rattle.fibs_session.specs.History.Words.{open_now}
+use Rattle.fibs_model.specs.Talks.{Steps}
+use Rattle.fibs_model.specs.Events.{Deliver}
 use Rattle.fibs_model.specs.HearingOf.{HearsPiece, HearsNext, IsTalking, RoomForPiece, RoomForNext}
 use Rattle.fibs_model.specs.LinksOf.{LinkValue, kept_of, link_of, seen, link_at, set_link}
-use Rattle.fibs_machine.specs.Wires.{Link}
+use Rattle.fibs_model.specs.Wires.{Link}
 use Rattle.fibs_model.specs.WireLinks as value
-use Rattle.fibs_machine.specs.World.{World, after, linked, talk_of}
+use Rattle.fibs_model.specs.World.{World, after, linked, talk_of}
 use Rattle.fibs_model.specs.WorldOf.{WorldValue, StandsFor, Goes, May}
-use Rattle.fibs_machine.specs.declared.refusal.WorldRefusal.TheVariants.{NotOpen}
+use Rattle.fibs_model.specs.declared.machine.refusal.WorldRefusal.TheVariants.{NotOpen}
 use Rattle.fibs_model.specs.declared.world.link.Link as C
-use Rattle.fibs_machine.proofs.Projection.{talk_is_projected}
-use Rattle.fibs_machine.proofs.joint.EachEvent.{is_open}
-use Rattle.fibs_machine.proofs.ClientActs.{Does as ClientDoes, does, given, lines_at, asked_none}
-use Rattle.fibs_machine.proofs.joint.Joint.{linked_same, linked_other}
-use Rattle.fibs_machine.proofs.wires.Boards.{boards}
+use Rattle.fibs_model.proofs.Projection.{talk_is_projected}
+use Rattle.fibs_model.proofs.joint.EachEvent.{is_open}
+use Rattle.fibs_model.proofs.ClientActs.{Does as ClientDoes, does, given, lines_at, asked_none}
+use Rattle.fibs_model.proofs.joint.Joint.{linked_same, linked_other}
+use Rattle.fibs_model.proofs.wires.Boards.{boards}
 use Rattle.fibs_model.proofs.Likeness.Hearing.{ends}
 use Rattle.fibs_model.proofs.Likeness.Events.{current_known, client_after, sound_after}
 use Rattle.fibs_model.proofs.Likeness.Links.{links_linked, length_set_link, link_set, link_was, value_path}
-use Rattle.fibs_machine.specs.Wires.{more_asked, delivered}
+use Rattle.fibs_model.specs.Wires.{more_asked, delivered}
 
 -- the wires after bytes were delivered: those of the open connection have the client's commands too
 heard_links : (login : List ℕ) (w : World) (n : ℕ) (d : ℕ)

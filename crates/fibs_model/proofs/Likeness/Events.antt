@@ -2,20 +2,20 @@
 use Rattle.std.proofs.Common.{◌≡◌, ◌≤◌, ℕ, List, [], ◌∷◌, ◌++◌, Some, None, length, map, sym, ap, subst, inl, inr, ◌∙◌}
 use Rattle.std.proofs.Common.{arith}
 use Rattle.std.proofs.lemmas.List.{map_push}
-use Rattle.fibs_history.specs.Machine.{InputValue}
+use Rattle.fibs_session.specs.History.Machine.{InputValue}
 use Rattle.fibs_session.specs.Calls.ClientLaws.{ServersEntriesAreSilent}
 use Rattle.fibs_session.specs.Calls.Standing.{ClientValue, StandsAfter}
 use Rattle.fibs_session.specs.Calls.Doing.{Does}
-use Rattle.fibs_machine.specs.Talks.{IsWorld, input_of}
-use Rattle.fibs_machine.specs.Events.{Event}
-use Rattle.fibs_machine.specs.Refusals.{refusal}
-use Rattle.fibs_machine.specs.World.{World, after, talk_of}
+use Rattle.fibs_model.specs.Talks.{IsWorld, input_of}
+use Rattle.fibs_model.specs.Events.{Event}
+use Rattle.fibs_model.specs.Refusals.{refusal}
+use Rattle.fibs_model.specs.World.{World, after, talk_of}
 use Rattle.fibs_model.specs.WorldOf.{WorldValue, StandsFor, IsKept, world_of, Goes, May}
-use Rattle.fibs_model_server.specs.EntryOf.{entry_of}
-use Rattle.fibs_model_server.specs.declared.entry.Entry as C
+use Rattle.fibs_model.specs.EntryOf.{entry_of}
+use Rattle.fibs_model.specs.declared.entry.Entry as C
 use Rattle.fibs_model.specs.declared.world.World.TheInside.{Inside}
 use Rattle.fibs_model.proofs.Following.{client_follows}
-use Rattle.fibs_machine.proofs.Projection.{talk_is_projected}
+use Rattle.fibs_model.proofs.Projection.{talk_is_projected}
 
 -- the open connection is one of those
 pub current_known : (v : WorldValue) (login : List ℕ) (w : World) → StandsFor v login w → v.current ≤ length v.links

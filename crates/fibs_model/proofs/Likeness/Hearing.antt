@@ -16,18 +16,18 @@ use Rattle.fibs_session.specs.Calls.Doing.{Does}
 use Rattle.fibs_session.specs.Calls.Feeding.{Gains, FeedAnswers, commands_of, line_of_taken}
 use Rattle.fibs_session.specs.Calls.SessionOf.{TakenValue}
 use Rattle.fibs_session.specs.Calls.Standing.{ClientValue, StandsAfter}
-use Rattle.fibs_history.specs.Hearing.{heard, nothing_heard, line_reading}
-use Rattle.fibs_history.specs.Log.{Entry}
-use Rattle.fibs_history.specs.Machine.{Talk, Step, Piece, step, is_online, stays, noted, with_bytes, gained}
-use Rattle.fibs_history.specs.Machine.{hears_all, heard_by, on_wire, wire_of, ordered_now}
-use Rattle.fibs_history.specs.MachineLaws.{PiecesJoin, EmptyPieceIsNothing}
-use Rattle.fibs_history.specs.Owing.{owed_on, owed, entries_owed, lines_in}
-use Rattle.fibs_history.specs.Owing.{PiecesTakeFromWhatIsOwed, PiecesTakeFromTheEntriesOwed}
-use Rattle.fibs_history.specs.Words.{open_now}
-use Rattle.fibs_model_server.specs.EntryOf.{roll_entries}
+use Rattle.fibs_session.specs.History.Hearing.{heard, nothing_heard, line_reading}
+use Rattle.fibs_session.specs.History.Log.{Entry}
+use Rattle.fibs_session.specs.History.Machine.{Talk, Step, Piece, step, is_online, stays, noted, with_bytes, gained}
+use Rattle.fibs_session.specs.History.Machine.{hears_all, heard_by, on_wire, wire_of, ordered_now}
+use Rattle.fibs_session.specs.History.MachineLaws.{PiecesJoin, EmptyPieceIsNothing}
+use Rattle.fibs_session.specs.History.Owing.{owed_on, owed, entries_owed, lines_in}
+use Rattle.fibs_session.specs.History.Owing.{PiecesTakeFromWhatIsOwed, PiecesTakeFromTheEntriesOwed}
+use Rattle.fibs_session.specs.History.Words.{open_now}
+use Rattle.fibs_model.specs.EntryOf.{roll_entries}
 use Rattle.fibs_model.specs.HearingOf.{HearsPiece, IsTalking, RoomForLine, RoomForPiece}
-use Rattle.fibs_history.proofs.Lists.{other_number}
-use Rattle.fibs_history.proofs.Joins.{all_open}
+use Rattle.fibs_session.proofs.History.Lists.{other_number}
+use Rattle.fibs_session.proofs.History.Joins.{all_open}
 
 -- a client with an open connection is online
 online : (t : Talk) (conn : ℕ) → 0 < conn → open_now t.log ≡ conn → is_online t ≡ true

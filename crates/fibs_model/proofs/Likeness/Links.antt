@@ -5,12 +5,12 @@ use Rattle.std.specs.Prelude.{slice_set}
 use Rattle.std.proofs.Math.Seq.{map-set_same}
 use Rattle.std.proofs.lemmas.List.{map-set, get_or-map, get_or-set_same, get_or-set_other, length-set}
 use Rattle.std.proofs.lemmas.Bool.Decides.{eqb_tells}
-use Rattle.fibs_machine.specs.Wires as W
+use Rattle.fibs_model.specs.Wires as W
 use Rattle.fibs_model.specs.LinksOf.{LinkValue, no_link, kept_of, link_of, seen, link_at, set_link}
 use Rattle.fibs_model.specs.WireLinks.{more_asked, more_coming, cut_off}
-use Rattle.fibs_machine.specs.World.{World, linked}
+use Rattle.fibs_model.specs.World.{World, linked}
 use Rattle.fibs_model.specs.declared.world.link.Link.{Link}
-use Rattle.fibs_history.proofs.Lists.{same_number, other_number}
+use Rattle.fibs_session.proofs.History.Lists.{same_number, other_number}
 use Rattle.fibs_model.proofs.Likeness.Whole.{kept_if}
 
 -- the element of a connection

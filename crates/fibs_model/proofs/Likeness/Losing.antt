@@ -1,22 +1,22 @@
 -- The open connection ends.
 use Rattle.std.proofs.Common.{◌≡◌, ◌<◌, ℕ, [], ◌∷◌, ◌++◌, Option, length, refl, sym, ap, subst, ◌∙◌, arith}
 use Rattle.fibs_position.specs.GamePart.{same_game}
-use Rattle.fibs_history.specs.Log as L
-use Rattle.fibs_history.specs.Words.{Ask, open_now, unconfirmed}
-use Rattle.fibs_history.specs.Machine.{Talk, unconfirmed_now}
-use Rattle.fibs_history.specs.Machine as M
+use Rattle.fibs_session.specs.History.Log as L
+use Rattle.fibs_session.specs.History.Words.{Ask, open_now, unconfirmed}
+use Rattle.fibs_session.specs.History.Machine.{Talk, unconfirmed_now}
+use Rattle.fibs_session.specs.History.Machine as M
 use Rattle.fibs_session.specs.Calls.ClientLaws.{ServersEntriesAreSilent}
 use Rattle.fibs_session.specs.Calls.Standing.{StandsAfter}
 use Rattle.fibs_session.specs.Calls.Doing.{Does}
-use Rattle.fibs_machine.specs.Events.{Lose}
+use Rattle.fibs_model.specs.Events.{Lose}
 use Rattle.fibs_model.specs.LinksOf.{kept_of, link_at, set_link}
 use Rattle.fibs_model.specs.WireLinks.{cut_off}
-use Rattle.fibs_machine.specs.World.{linked, talk_of}
+use Rattle.fibs_model.specs.World.{linked, talk_of}
 use Rattle.fibs_model.specs.WorldOf.{WorldValue, Goes, May}
-use Rattle.fibs_machine.specs.declared.refusal.WorldRefusal.TheVariants.{NotOpen}
-use Rattle.fibs_machine.proofs.joint.EachEvent.{is_open}
-use Rattle.fibs_history.proofs.Past.{open_append}
-use Rattle.fibs_machine.specs.Wires as whole
+use Rattle.fibs_model.specs.declared.machine.refusal.WorldRefusal.TheVariants.{NotOpen}
+use Rattle.fibs_model.proofs.joint.EachEvent.{is_open}
+use Rattle.fibs_session.proofs.History.Past.{open_append}
+use Rattle.fibs_model.specs.Wires as whole
 use Rattle.fibs_model.proofs.Likeness.Links.{links_linked, length_set_link}
 use Rattle.fibs_model.proofs.Likeness.Events.{current_known, client_after, sound_after}
 

@@ -3,20 +3,20 @@ use Rattle.std.proofs.Common.{◌≡◌, ◌+◌, ℕ, Bool, true, false, not, L
 use Rattle.std.proofs.Common.{if◌then◌else◌, refl, sym, ap, subst, ◌∙◌, append-nil}
 use Rattle.std.proofs.lemmas.List.{length-append, map_push}
 use Rattle.fibs_model.specs.declared.world.link.Link as C
-use Rattle.fibs_history.specs.Log as L
-use Rattle.fibs_history.specs.Words.{open_now}
-use Rattle.fibs_history.specs.Machine.{Step, stays, opened, on_wire}
-use Rattle.fibs_history.specs.Machine as M
+use Rattle.fibs_session.specs.History.Log as L
+use Rattle.fibs_session.specs.History.Words.{open_now}
+use Rattle.fibs_session.specs.History.Machine.{Step, stays, opened, on_wire}
+use Rattle.fibs_session.specs.History.Machine as M
 use Rattle.fibs_session.specs.Calls.ClientLaws.{ServersEntriesAreSilent}
 use Rattle.fibs_session.specs.Calls.Doing.{Does}
-use Rattle.fibs_machine.specs.Events.{Open}
+use Rattle.fibs_model.specs.Events.{Open}
 use Rattle.fibs_model.specs.LinksOf.{LinkValue, no_link, kept_of, link_of, seen, link_at}
 use Rattle.fibs_model.specs.WireLinks.{more_asked}
-use Rattle.fibs_machine.specs.World.{World, talk_of}
+use Rattle.fibs_model.specs.World.{World, talk_of}
 use Rattle.fibs_model.specs.WorldOf.{WorldValue, StandsFor, Goes, May}
-use Rattle.fibs_machine.specs.declared.refusal.WorldRefusal.TheVariants.{AlreadyOpen}
-use Rattle.fibs_history.proofs.Past.{open_append}
-use Rattle.fibs_machine.specs.Wires as whole
+use Rattle.fibs_model.specs.declared.machine.refusal.WorldRefusal.TheVariants.{AlreadyOpen}
+use Rattle.fibs_session.proofs.History.Past.{open_append}
+use Rattle.fibs_model.specs.Wires as whole
 use Rattle.fibs_model.proofs.Likeness.Whole.{kept_if}
 use Rattle.fibs_model.proofs.Likeness.Links.{link_at_push, link_at_none, value_path}
 use Rattle.fibs_model.proofs.Likeness.Events.{client_after, sound_after}

@@ -3,15 +3,15 @@ use Rattle.std.proofs.Common.{◌≡◌, ◌<◌, ◌+◌, ℕ, List, [], ◌∷
 use Rattle.std.proofs.Common.{suc, sym, ap, subst, ◌∙◌, arith, append_assoc, add-one}
 use Rattle.std.proofs.Math.Seq.{drop-cons}
 use Rattle.std.proofs.lemmas.List.{length-map, get_or-map}
-use Rattle.fibs_boards.specs.Board.{BoardFields}
-use Rattle.fibs_machine.specs.Events.{Event}
-use Rattle.fibs_machine.specs.Headline.{Headline}
-use Rattle.fibs_machine.specs.Laws.{HeadlineHolds}
-use Rattle.fibs_machine.specs.Refusals.{refusal}
-use Rattle.fibs_machine.specs.World.{World}
+use Rattle.fibs_fields.specs.Board.{BoardFields}
+use Rattle.fibs_model.specs.Events.{Event}
+use Rattle.fibs_model.specs.Headline.{Headline}
+use Rattle.fibs_model.specs.Laws.{HeadlineHolds}
+use Rattle.fibs_model.specs.Refusals.{refusal}
+use Rattle.fibs_model.specs.World.{World}
 use Rattle.fibs_model.specs.WorldCalls.{WorldStandsAfter, machine_after, Tells, Stops}
 use Rattle.fibs_model.specs.WorldOf.{WorldValue}
-use Rattle.fibs_machine.specs.declared.refusal.WorldRefusal.{WorldRefusal}
+use Rattle.fibs_model.specs.declared.machine.refusal.WorldRefusal.{WorldRefusal}
 
 -- the headline holds of a world that is reached
 pub headline_of : HeadlineHolds → (v : WorldValue) (name password : List ℕ) (first : BoardFields) (es : List Event)

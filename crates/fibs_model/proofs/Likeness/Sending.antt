@@ -4,24 +4,24 @@ use Rattle.std.proofs.Common.{refl, sym, ap, subst, ◌∙◌, true≢false, ari
 use Rattle.std.proofs.lemmas.Bool.{eqb-true}
 use Rattle.std.specs.Prelude.{Result, Ok, Err, IsOk, OnOk}
 use Rattle.std.specs.Result.{result_err}
-use Rattle.fibs_machine.specs.Server.{own_refusal}
-use Rattle.fibs_machine.specs.declared.refusal.WorldRefusal.{WorldRefusal}
-use Rattle.fibs_boards.specs.Board.{BoardFields, spelling}
-use Rattle.fibs_history.specs.Words.{open_now}
-use Rattle.fibs_history.specs.Machine.{on_wire}
+use Rattle.fibs_model.specs.Server.{own_refusal}
+use Rattle.fibs_model.specs.declared.machine.refusal.WorldRefusal.{WorldRefusal}
+use Rattle.fibs_fields.specs.Board.{BoardFields, spelling}
+use Rattle.fibs_session.specs.History.Words.{open_now}
+use Rattle.fibs_session.specs.History.Machine.{on_wire}
 use Rattle.fibs_session.specs.Calls.ClientLaws.{ServersEntriesAreSilent}
 use Rattle.fibs_session.specs.Calls.Standing.{StandsAfter}
 use Rattle.fibs_model.specs.Calls.{send_links}
-use Rattle.fibs_machine.specs.Talks.{input_of}
-use Rattle.fibs_machine.specs.Events.{Event, Own, Repeat, Text}
+use Rattle.fibs_model.specs.Talks.{input_of}
+use Rattle.fibs_model.specs.Events.{Event, Own, Repeat, Text}
 use Rattle.fibs_model.specs.LinksOf.{LinkValue, kept_of, link_at, set_link}
-use Rattle.fibs_machine.specs.Refusals.{refusal}
+use Rattle.fibs_model.specs.Refusals.{refusal}
 use Rattle.fibs_model.specs.WireLinks.{more_coming}
-use Rattle.fibs_machine.specs.World.{World, after, linked, is_talking, sends, talk_of}
+use Rattle.fibs_model.specs.World.{World, after, linked, is_talking, sends, talk_of}
 use Rattle.fibs_model.specs.WorldOf.{WorldValue, StandsFor, Goes, May}
-use Rattle.fibs_machine.proofs.joint.Sending.{if_fact, some_of}
-use Rattle.fibs_history.proofs.Lists.{and_left, and_right}
-use Rattle.fibs_machine.specs.Wires as whole
+use Rattle.fibs_model.proofs.joint.Sending.{if_fact, some_of}
+use Rattle.fibs_session.proofs.History.Lists.{and_left, and_right}
+use Rattle.fibs_model.specs.Wires as whole
 use Rattle.fibs_model.proofs.Likeness.Links.{links_linked, length_set_link}
 use Rattle.fibs_model.proofs.Likeness.Events.{current_known, client_waits, sound_after}
 

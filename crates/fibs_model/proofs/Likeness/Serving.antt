@@ -1,29 +1,29 @@
 -- The server takes a line, and answers it.
 use Rattle.std.proofs.Common.{◌≡◌, ◌≤◌, ℕ, List, [], ◌∷◌, ◌++◌, Some, length, if◌then◌else◌, refl, sym, ap, subst, ◌∙◌}
 use Rattle.std.proofs.Common.{arith, append-nil, map}
-use Rattle.fibs_boards.specs.Board.{BoardFields, spelling}
-use Rattle.fibs_history.specs.Log as L
-use Rattle.fibs_history.specs.Log.{Entry}
-use Rattle.fibs_history.specs.Words.{is_empty, open_now}
-use Rattle.fibs_history.specs.Machine.{on_wire}
+use Rattle.fibs_fields.specs.Board.{BoardFields, spelling}
+use Rattle.fibs_session.specs.History.Log as L
+use Rattle.fibs_session.specs.History.Log.{Entry}
+use Rattle.fibs_session.specs.History.Words.{is_empty, open_now}
+use Rattle.fibs_session.specs.History.Machine.{on_wire}
 use Rattle.fibs_session.specs.Calls.ClientLaws.{ServersEntriesAreSilent}
 use Rattle.fibs_session.specs.Calls.Standing.{StandsAfter}
-use Rattle.fibs_machine.specs.Server.{ServerValue}
+use Rattle.fibs_model.specs.Server.{ServerValue}
 use Rattle.fibs_model.specs.Calls.{send_links, TakesNext}
-use Rattle.fibs_model_server.specs.EntryOf.{entry_of}
-use Rattle.fibs_model_server.specs.declared.entry.Entry as C
-use Rattle.fibs_machine.specs.Events.{Serve}
+use Rattle.fibs_model.specs.EntryOf.{entry_of}
+use Rattle.fibs_model.specs.declared.entry.Entry as C
+use Rattle.fibs_model.specs.Events.{Serve}
 use Rattle.fibs_model.specs.LinksOf.{LinkValue, kept_of, link_at}
-use Rattle.fibs_machine.specs.Server.{Served, Stale, LoggedIn, Took, Undone, Answered}
-use Rattle.fibs_model_server.specs.ServerOf.{after_line, served_entries, is_answered}
-use Rattle.fibs_machine.specs.Wires as whole
-use Rattle.fibs_machine.specs.Wires.{next_line}
+use Rattle.fibs_model.specs.Server.{Served, Stale, LoggedIn, Took, Undone, Answered}
+use Rattle.fibs_model.specs.ServerOf.{after_line, served_entries, is_answered}
+use Rattle.fibs_model.specs.Wires as whole
+use Rattle.fibs_model.specs.Wires.{next_line}
 use Rattle.fibs_model.specs.WireLinks.{taken}
-use Rattle.fibs_machine.specs.World.{World, after, linked, noted, sends, serves, does_served, talk_of}
+use Rattle.fibs_model.specs.World.{World, after, linked, noted, sends, serves, does_served, talk_of}
 use Rattle.fibs_model.specs.WorldOf.{WorldValue, StandsFor, Goes, May}
-use Rattle.fibs_machine.proofs.Answering.{answered_at as answered}
-use Rattle.fibs_machine.proofs.joint.EachEvent.{served}
-use Rattle.fibs_history.proofs.Past.{open_append}
+use Rattle.fibs_model.proofs.Answering.{answered_at as answered}
+use Rattle.fibs_model.proofs.joint.EachEvent.{served}
+use Rattle.fibs_session.proofs.History.Past.{open_append}
 use Rattle.fibs_model.proofs.Likeness.Whole.{some_taken}
 use Rattle.fibs_model.proofs.Likeness.Links.{links_linked, length_set_link, value_path}
 use Rattle.fibs_model.proofs.Likeness.Sending.{sent_links, sends_rest, length_sent}

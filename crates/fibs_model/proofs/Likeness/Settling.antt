@@ -3,26 +3,26 @@ use Rattle.std.proofs.Common.{◌≡◌, ℕ, ◌+◌, ◌<◌, ◌≤◌, List,
 use Rattle.std.proofs.Common.{ap, subst, arith, append-nil, append_assoc, length-append, Bool, true, false, not, ◌&&◌}
 use Rattle.std.proofs.Common.{zero, suc, nat_eq, nat_lt, nat_le, if◌then◌else◌, inl, inr}
 use Rattle.std.proofs.lemmas.Bool.Decides.{eqb_tells, nat_tests}
-use Rattle.fibs_boards.specs.Board.{BoardFields}
+use Rattle.fibs_fields.specs.Board.{BoardFields}
 use Rattle.fibs_position.specs.BoardEffect.{IsDie, is_die}
 use Rattle.fibs_commands.specs.Logins.{login_text}
-use Rattle.fibs_history.specs.Words.{last, open_now, shown}
-use Rattle.fibs_machine.specs.Acts.{acts_after}
-use Rattle.fibs_machine.specs.Agrees.{AgreesHolds, BoardsAgree}
-use Rattle.fibs_machine.specs.CanRest.{EachNext, LeadsToRest, ThisWayLeadsToRest, asked_now, next_to_rest}
-use Rattle.fibs_machine.specs.Events.{Event}
-use Rattle.fibs_machine.specs.Headline.{IsAtRest}
-use Rattle.fibs_machine.specs.Refusals.{refusal}
-use Rattle.fibs_machine.specs.Runs.{AllAccepted, MayBe, after_all, world_after}
-use Rattle.fibs_machine.specs.Wires.{next_line}
-use Rattle.fibs_machine.specs.World.{World, after, start}
-use Rattle.fibs_machine.specs.declared.refusal.WorldRefusal.{WorldRefusal}
-use Rattle.fibs_machine.specs.declared.refusal.WorldRefusal.TheVariants.{NotOpen, BadDice}
+use Rattle.fibs_session.specs.History.Words.{last, open_now, shown}
+use Rattle.fibs_model.specs.Acts.{acts_after}
+use Rattle.fibs_model.specs.Agrees.{AgreesHolds, BoardsAgree}
+use Rattle.fibs_model.specs.CanRest.{EachNext, LeadsToRest, ThisWayLeadsToRest, asked_now, next_to_rest}
+use Rattle.fibs_model.specs.Events.{Event}
+use Rattle.fibs_model.specs.Headline.{IsAtRest}
+use Rattle.fibs_model.specs.Refusals.{refusal}
+use Rattle.fibs_model.specs.Runs.{AllAccepted, MayBe, after_all, world_after}
+use Rattle.fibs_model.specs.Wires.{next_line}
+use Rattle.fibs_model.specs.World.{World, after, start}
+use Rattle.fibs_model.specs.declared.machine.refusal.WorldRefusal.{WorldRefusal}
+use Rattle.fibs_model.specs.declared.machine.refusal.WorldRefusal.TheVariants.{NotOpen, BadDice}
 use Rattle.fibs_model.specs.Settling.{Settled, settle_refusal}
 use Rattle.fibs_model.specs.WorldCalls.{WorldStandsAfter, machine_after, Agrees}
 use Rattle.fibs_model.specs.LinksOf.{LinkValue, kept_of, link_at, no_link}
 use Rattle.fibs_model.specs.WorldOf.{WorldValue, StandsFor}
-use Rattle.fibs_history.proofs.Lists.{and_left, and_right}
+use Rattle.fibs_session.proofs.History.Lists.{and_left, and_right}
 use Rattle.fibs_model.proofs.Likeness.Stepping.{IsTold, if_told, stands_for}
 
 -- the world after two lists of events

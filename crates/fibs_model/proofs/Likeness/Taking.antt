@@ -2,15 +2,15 @@
 use Rattle.std.proofs.Common.{◌≡◌, ◌≤◌, ◌<◌, ◌+◌, ◌-◌, ℕ, List, Option, Some, length, take, drop, get_or, sym, ap}
 use Rattle.std.proofs.Common.{subst, ◌∙◌}
 use Rattle.std.specs.Prelude.{slice_set, option_map}
-use Rattle.fibs_machine.specs.Server.{ServerValue}
+use Rattle.fibs_model.specs.Server.{ServerValue}
 use Rattle.fibs_model.specs.Calls.{TakesLine, TakesNext}
 use Rattle.fibs_model.specs.LinksOf.{LinkValue, link_of, seen, link_at}
-use Rattle.fibs_machine.specs.Server as V
-use Rattle.fibs_machine.specs.Wires.{next_line}
+use Rattle.fibs_model.specs.Server as V
+use Rattle.fibs_model.specs.Wires.{next_line}
 use Rattle.fibs_model.specs.WireLinks.{taken}
-use Rattle.fibs_wires.specs.WireOf.{WireValue}
+use Rattle.fibs_model.specs.WireOf.{WireValue}
 use Rattle.fibs_model.specs.declared.world.link.Link.{Link}
-use Rattle.fibs_machine.proofs.Answering.{answered_at}
+use Rattle.fibs_model.proofs.Answering.{answered_at}
 use Rattle.fibs_model.proofs.Likeness.Links.{link_set, link_was, value_path}
 
 -- the wires l of a connection become k

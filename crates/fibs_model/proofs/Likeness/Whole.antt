@@ -1,9 +1,9 @@
 -- The wires of the machine, which keep all bytes.
 use Rattle.std.proofs.Common.{◌≡◌, ℕ, Bool, true, false, List, [], ◌∷◌, ◌++◌, if◌then◌else◌, refl}
-use Rattle.fibs_history.specs.Words.{is_empty}
-use Rattle.fibs_history.specs.Machine.{on_wire}
+use Rattle.fibs_session.specs.History.Words.{is_empty}
+use Rattle.fibs_session.specs.History.Machine.{on_wire}
 use Rattle.fibs_model.specs.LinksOf.{kept_of}
-use Rattle.fibs_machine.specs.Wires.{Link}
+use Rattle.fibs_model.specs.Wires.{Link}
 
 -- wires by their bytes
 pub whole_path : {h h' c c' s s' a a' : List ℕ} → h ≡ h' → c ≡ c' → s ≡ s' → a ≡ a'

@@ -1,19 +1,19 @@
 //! The user decides, or says something else.
 
 ghost use Rattle.std.specs.Prelude.{◌≡◌, ◌≤◌, ◌+◌, ◌++◌, OnOk, OnErr, map, vec_len, vec_capacity, option_map};
-ghost use Rattle.fibs_boards.specs.StoredBoard.{fields_of};
+ghost use Rattle.fibs_fields.specs.StoredBoard.{fields_of};
 ghost use Rattle.fibs_position.specs.DecisionValue.{decision_of};
 ghost use Rattle.fibs_session.specs.Calls.SessionOf.{refusal_in};
 ghost use Rattle.fibs_commands.specs.PlainOf.{plain_value};
 ghost use Rattle.fibs_model.specs.Calls.{click_entries};
-ghost use Rattle.fibs_model_server.specs.EntryOf.{entry_of};
-ghost use Rattle.fibs_machine.specs.Events as E;
+ghost use Rattle.fibs_model.specs.EntryOf.{entry_of};
+ghost use Rattle.fibs_model.specs.Events as E;
 ghost use Rattle.fibs_model.specs.WorldOf.{Goes};
 
 use super::World;
 use super::links::{COMMAND, hand_out, make_room};
-use fibs_boards::Board;
-use fibs_model_server::Entry;
+use crate::Entry;
+use fibs_fields::boards::Board;
 use fibs_position::Decision;
 use fibs_session::{CommandText, Plain, Refusal};
 use std::alloc::AllocError;

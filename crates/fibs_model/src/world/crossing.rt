@@ -1,15 +1,15 @@
 //! Bytes of the open connection cross the carrier, before the world takes them.
 
 ghost use Rattle.std.specs.Prelude.{◌≡◌, ◌≤◌, ◌<◌, ◌∷◌, [], true, length, take, IsErr, OnOk, IsSome};
-ghost use Rattle.fibs_carrier.specs.declared.carrier.Way.TheVariants.{ToServer, ToClient};
-ghost use Rattle.fibs_carrier.specs.Carrying.{crossed, closed};
+ghost use Rattle.fibs_model.specs.declared.carriers.carrier.Way.TheVariants.{ToServer, ToClient};
+ghost use Rattle.fibs_model.specs.Carrying.{crossed, closed};
 ghost use Rattle.fibs_model.specs.Crossings.{line_crossings};
 ghost use Rattle.fibs_model.specs.LinksOf.{seen, link_at};
-ghost use Rattle.fibs_machine.specs.Wires.{next_line};
+ghost use Rattle.fibs_model.specs.Wires.{next_line};
 
 use super::link::Link;
-use fibs_carrier::{Broken, Carrier, Way};
-use fibs_wires::wire::whole_line;
+use crate::carriers::{Broken, Carrier, Way};
+use crate::wire::whole_line;
 
 /// The next bytes to the client cross.
 pub(super) fn cross_to_client<C: Carrier>(

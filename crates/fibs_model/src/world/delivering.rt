@@ -4,8 +4,8 @@ ghost use Rattle.std.specs.Prelude.{◌≡◌, ◌≤◌, ◌<◌, ◌+◌, ◌*
 ghost use Rattle.std.specs.Prelude.{vec_len, vec_capacity, if◌then◌else◌, IfSome, true, OnOk, OnErr, IsErrOf};
 ghost use Rattle.fibs_lines.specs.Lines.{is_line_end};
 ghost use Rattle.fibs_model.specs.Crossings.{crossings_in};
-ghost use Rattle.fibs_model_server.specs.EntryOf.{entry_of};
-ghost use Rattle.fibs_machine.specs.Events as E;
+ghost use Rattle.fibs_model.specs.EntryOf.{entry_of};
+ghost use Rattle.fibs_model.specs.Events as E;
 ghost use Rattle.fibs_model.specs.HearingOf.{HearsPiece, HearsNext, RoomForPiece, RoomForNext};
 ghost use Rattle.fibs_model.specs.LinksOf.{seen, link_at};
 ghost use Rattle.fibs_model.specs.WorldOf.{May, Goes};
@@ -15,11 +15,11 @@ use super::crossing::cross_to_client;
 use super::hearing::hear_all;
 use super::link::Link;
 use super::links::make_room;
+use crate::Entry;
+use crate::carriers::Carrier;
 use crate::halt::Halt;
-use fibs_carrier::Carrier;
-use fibs_model_server::Entry;
+use crate::wire::line_ends;
 use fibs_session::Client;
-use fibs_wires::wire::line_ends;
 use std::alloc::AllocError;
 
 /// The most bytes of commands that the lines of a connection make the client hand out if no standing order is given.

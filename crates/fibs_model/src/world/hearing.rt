@@ -4,16 +4,16 @@ ghost use Rattle.std.specs.Prelude.{◌≡◌, ◌≤◌, ◌<◌, ◌+◌, ◌+
 ghost use Rattle.std.specs.Prelude.{vec_capacity};
 ghost use Rattle.fibs_messages.specs.Line.{reading_of};
 ghost use Rattle.fibs_session.specs.Calls.SessionOf.{texts_of};
-ghost use Rattle.fibs_history.specs.Hearing.{heard};
-ghost use Rattle.fibs_history.specs.Log as L;
-ghost use Rattle.fibs_history.specs.Machine.{wire_of};
-ghost use Rattle.fibs_model_server.specs.EntryOf.{entry_of, entries_of};
+ghost use Rattle.fibs_session.specs.History.Hearing.{heard};
+ghost use Rattle.fibs_session.specs.History.Log as L;
+ghost use Rattle.fibs_session.specs.History.Machine.{wire_of};
+ghost use Rattle.fibs_model.specs.EntryOf.{entry_of, entries_of};
 ghost use Rattle.fibs_model.specs.HearingOf.{HearsPiece, RoomForLine, RoomForPiece};
 
+use crate::Entry;
+use crate::wire::Wire;
 use fibs_messages::Reading;
-use fibs_model_server::Entry;
 use fibs_session::{AnswerText, Client};
-use fibs_wires::wire::Wire;
 
 /// Notes an entry, if there is one.
 pub(super) fn note(log: &mut Vec<Entry>, entry: Option<Entry>)

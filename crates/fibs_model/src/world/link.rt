@@ -1,6 +1,6 @@
 //! The wires of one connection.
 
-use fibs_wires::wire::Wire;
+use crate::wire::Wire;
 
 /// The wires of a connection.
 #[derive(Drop)]

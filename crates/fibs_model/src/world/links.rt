@@ -2,7 +2,7 @@
 
 ghost use Rattle.std.specs.Prelude.{◌≡◌, ◌≤◌, ◌<◌, ◌+◌, ◌-◌, length, vec_len, OnOk, IsOk};
 ghost use Rattle.fibs_session.specs.Calls.SessionOf.{handed};
-ghost use Rattle.fibs_history.specs.Machine.{on_wire};
+ghost use Rattle.fibs_session.specs.History.Machine.{on_wire};
 ghost use Rattle.fibs_model.specs.Calls.{ask_links, send_links};
 ghost use Rattle.fibs_model.specs.WireLinks.{more_asked, more_coming, cut_off};
 ghost use Rattle.fibs_model.specs.LinksOf.{link_of, seen, link_at, set_link, RoomToClient, RoomToServer};

@@ -2,15 +2,15 @@
 
 ghost use Rattle.std.specs.Prelude.{◌≡◌, true, OnOk, OnErr, IsErrOf};
 ghost use Rattle.fibs_model.specs.Crossings.{crossings_in};
-ghost use Rattle.fibs_machine.specs.Events.{Lose};
+ghost use Rattle.fibs_model.specs.Events.{Lose};
 ghost use Rattle.fibs_model.specs.WorldOf.{May, Goes};
 
 use super::World;
 use super::crossing::hang_up;
 use super::links::cut;
+use crate::Entry;
+use crate::carriers::Carrier;
 use crate::halt::Halt;
-use fibs_carrier::Carrier;
-use fibs_model_server::Entry;
 
 impl World {
     /// The open connection ends: of the bytes on their way to the server the first `kept` stay.

@@ -2,16 +2,16 @@
 
 ghost use Rattle.std.specs.Prelude.{◌≡◌, true, OnOk, OnErr, IsErrOf};
 ghost use Rattle.fibs_model.specs.Crossings.{crossings_in};
-ghost use Rattle.fibs_machine.specs.Events.{Open};
+ghost use Rattle.fibs_model.specs.Events.{Open};
 ghost use Rattle.fibs_model.specs.WorldOf.{May, Goes};
 
 use super::World;
 use super::link::Link;
 use super::links::COMMAND;
+use crate::Entry;
+use crate::carriers::Carrier;
 use crate::halt::Halt;
-use fibs_carrier::Carrier;
-use fibs_model_server::Entry;
-use fibs_wires::wire::Wire;
+use crate::wire::Wire;
 
 impl World {
     /// The client opens a connection; its login goes on the new wire.

@@ -3,13 +3,13 @@
 ghost use Rattle.std.specs.Prelude.{◌≡◌, OnOk, OnErr};
 ghost use Rattle.std.specs.Result.{result_err};
 ghost use Rattle.fibs_model.specs.Calls.{unless_refused};
-ghost use Rattle.fibs_model_server.specs.EntryOf.{entry_of, entries_of};
-ghost use Rattle.fibs_machine.specs.Events as E;
+ghost use Rattle.fibs_model.specs.EntryOf.{entry_of, entries_of};
+ghost use Rattle.fibs_model.specs.Events as E;
 ghost use Rattle.fibs_model.specs.WorldOf.{Goes};
 
 use super::World;
 use super::hearing::note;
-use fibs_model_server::Entry;
+use crate::Entry;
 use fibs_session::Refusal;
 use std::alloc::AllocError;
 

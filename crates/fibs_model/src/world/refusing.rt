@@ -2,18 +2,19 @@
 
 ghost use Rattle.std.specs.Prelude.{◌≡◌, ℕ, List, slice_index};
 ghost use Rattle.fibs_model.specs.Calls.{serve_refusal};
-ghost use Rattle.fibs_model_server.specs.EventOf.{event_of};
+ghost use Rattle.fibs_model.specs.EventOf.{event_of};
 ghost use Rattle.fibs_model.specs.LinksOf.{seen};
-ghost use Rattle.fibs_machine.specs.Refusals.{refusal};
-ghost use Rattle.fibs_machine.specs.World as W;
+ghost use Rattle.fibs_model.specs.Refusals.{refusal};
+ghost use Rattle.fibs_model.specs.World as W;
 ghost use Rattle.fibs_model.specs.WorldOf.{StandsFor};
 
 use super::World;
 use super::link::Link;
-use fibs_machine::WorldRefusal;
-use fibs_model_server::{Event, own_refusal};
+use crate::Event;
+use crate::machine::WorldRefusal;
+use crate::server::own_refusal;
+use crate::wire::{is_board_text, whole_line};
 use fibs_position::is_die;
-use fibs_wires::wire::{is_board_text, whole_line};
 
 /// Why it is refused to serve a line of a connection.
 #[tactic(auto, unfolding(crate::specs::Calls::serve_refusal))]

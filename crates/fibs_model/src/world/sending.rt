@@ -1,13 +1,13 @@
 //! The server sends something by itself.
 
 ghost use Rattle.std.specs.Prelude.{◌≡◌, OnOk, OnErr};
-ghost use Rattle.fibs_boards.specs.StoredBoard.{fields_of};
-ghost use Rattle.fibs_machine.specs.Events as E;
+ghost use Rattle.fibs_fields.specs.StoredBoard.{fields_of};
+ghost use Rattle.fibs_model.specs.Events as E;
 ghost use Rattle.fibs_model.specs.WorldOf.{May, Goes};
 
 use super::World;
 use super::links::{BOARD, make_room, send_line};
-use fibs_boards::Board;
+use fibs_fields::boards::Board;
 use std::alloc::AllocError;
 
 impl World {

@@ -2,13 +2,13 @@
 
 ghost use Rattle.std.specs.Prelude.{◌≡◌, ◌≤◌, ◌<◌, ◌+◌, ℕ, true, length, OnOk, OnErr, IsErrOf};
 ghost use Rattle.std.specs.Prelude.{IsSome, vec_len, slice_index, if◌then◌else◌};
-ghost use Rattle.fibs_boards.specs.Board.{spelling};
+ghost use Rattle.fibs_fields.specs.Board.{spelling};
 ghost use Rattle.fibs_model.specs.Calls.{send_links, TakesLine, TakesNext};
 ghost use Rattle.fibs_model.specs.Crossings.{crossings_in};
-ghost use Rattle.fibs_machine.specs.Events as E;
+ghost use Rattle.fibs_model.specs.Events as E;
 ghost use Rattle.fibs_model.specs.LinksOf.{seen, link_at, RoomToClient};
-ghost use Rattle.fibs_model_server.specs.ServerOf.{is_answered, served_of};
-ghost use Rattle.fibs_machine.specs.Wires.{next_line};
+ghost use Rattle.fibs_model.specs.ServerOf.{is_answered, served_of};
+ghost use Rattle.fibs_model.specs.Wires.{next_line};
 ghost use Rattle.fibs_model.specs.WorldOf.{May, Goes};
 
 use super::World;
@@ -16,10 +16,10 @@ use super::crossing::cross_line;
 use super::hearing::note;
 use super::link::Link;
 use super::links::{BOARD, make_room, send_line};
+use crate::carriers::Carrier;
 use crate::halt::Halt;
-use fibs_carrier::Carrier;
-use fibs_model_server::{Served, Server};
-use fibs_wires::wire::whole_line;
+use crate::wire::whole_line;
+use crate::{Served, Server};
 
 /// The server takes the next line of a connection.
 fn take_line(server: &mut Server, link: &mut Link, conn: usize, len: usize, dice: [u8; 2]) -> Served

@@ -1,20 +1,20 @@
 //! What brings a world to rest.
 
 ghost use Rattle.std.specs.Prelude.{◌≡◌, ◌≤◌, ◌+◌, ℕ, List, length, slice_index, option_map};
-ghost use Rattle.fibs_machine.specs.CanRest.{asked_now, next_to_rest};
-ghost use Rattle.fibs_machine.specs.World as W;
+ghost use Rattle.fibs_model.specs.CanRest.{asked_now, next_to_rest};
+ghost use Rattle.fibs_model.specs.World as W;
 ghost use Rattle.fibs_model.specs.Calls.{next_on};
 ghost use Rattle.fibs_model.specs.LinksOf.{link_of};
 ghost use Rattle.fibs_model.specs.Settling.{settle_refusal};
 ghost use Rattle.fibs_model.specs.WorldOf.{StandsFor};
-ghost use Rattle.fibs_model_server.specs.EventOf.{event_of};
+ghost use Rattle.fibs_model.specs.EventOf.{event_of};
 
 use super::World;
 use super::link::Link;
-use fibs_machine::WorldRefusal;
-use fibs_model_server::Event;
+use crate::Event;
+use crate::machine::WorldRefusal;
+use crate::wire::whole_line;
 use fibs_position::is_die;
-use fibs_wires::wire::whole_line;
 
 /// By how much the events on the way to rest may be more than the lines that are on their way to the server.
 const MORE: usize = 8;

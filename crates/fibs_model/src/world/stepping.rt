@@ -2,13 +2,13 @@
 
 ghost use Rattle.std.specs.Prelude.{◌≡◌, true, OnOk, OnErr, IsErrOf};
 ghost use Rattle.fibs_model.specs.Crossings.{crossings_in};
-ghost use Rattle.fibs_model_server.specs.EventOf.{event_of};
+ghost use Rattle.fibs_model.specs.EventOf.{event_of};
 ghost use Rattle.fibs_model.specs.WorldOf.{May, Goes};
 
 use super::World;
+use crate::Event;
+use crate::carriers::Carrier;
 use crate::halt::Halt;
-use fibs_carrier::Carrier;
-use fibs_model_server::Event;
 
 impl World {
     /// Does an event that is not refused.

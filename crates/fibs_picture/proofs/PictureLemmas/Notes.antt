@@ -13,7 +13,7 @@ use Rattle.std.proofs.lemmas.Bool.Decides.{nat_tests}
 use Rattle.std.proofs.lemmas.Fmt.{signed_decimal_injective}
 use Rattle.std.proofs.lemmas.Int.{ints}
 use lib.Signed.{mag}
-use Rattle.fibs_boards.specs.Board.{BoardFields, field_of, field_values, can_have}
+use Rattle.fibs_fields.specs.Board.{BoardFields, field_of, field_values, can_have}
 use Rattle.fibs_fields.specs.Name.{is_name, is_name_byte}
 use Rattle.fibs_position.specs.DecisionValue.{accept, double}
 use Rattle.fibs_fields.specs.FieldReading.{natural}

@@ -3,8 +3,8 @@ use Rattle.std.proofs.Common.{◌≡◌, ◌⊎◌, ◌≤◌, ℕ, zero, suc, r
 use Rattle.std.proofs.Common.{arith, inl, inr, lit≤}
 use Rattle.std.specs.Prelude.{ℤ, pos, negsuc, neg_ℤ, ◌≤ℤ◌}
 use Rattle.std.proofs.lemmas.Int.{ints}
-use Rattle.fibs_boards.specs.Board.{BoardFields, IsBoard, field_of}
-use Rattle.fibs_boards.specs.FieldRanges.{FieldRanges}
+use Rattle.fibs_fields.specs.Board.{BoardFields, IsBoard, field_of}
+use Rattle.fibs_fields.specs.FieldRanges.{FieldRanges}
 use Rattle.fibs_position.specs.DirectionOf.{direction_of, line_place}
 use Rattle.fibs_fields.specs.FieldReading.{natural}
 use Rattle.fibs_position.specs.OwnView.{checkers_of, stand_on, colour, place_field}

@@ -9,8 +9,8 @@ use Rattle.std.proofs.lemmas.Bool.{cases_eq}
 use Rattle.std.proofs.lemmas.Bool.Decides.{nat_tests}
 use Rattle.std.proofs.lemmas.List.{get_or_append_left}
 use Rattle.std.proofs.lemmas.List.FromFn.{get_or-map-range_with_len, length-map-range_with_len}
-use Rattle.fibs_boards.specs.Board.{BoardFields, IsBoard, field_of, can_have, field_values}
-use Rattle.fibs_boards.specs.FieldRanges.{FieldRanges}
+use Rattle.fibs_fields.specs.Board.{BoardFields, IsBoard, field_of, can_have, field_values}
+use Rattle.fibs_fields.specs.FieldRanges.{FieldRanges}
 use Rattle.fibs_rules.specs.Hop.{Hop}
 use Rattle.fibs_rules.specs.Checkers.{Checkers, shifted, hit}
 use Rattle.fibs_rules.specs.LaxPlays.{LaxRun}

@@ -1,7 +1,7 @@
 -- The game part, group by group.
 use Rattle.std.proofs.Common.{◌≡◌, ℕ, ◌++◌, List, take, drop, ap, ◌∙◌}
 use Rattle.std.specs.Prelude.{ℤ, map}
-use Rattle.fibs_boards.specs.Board.{BoardFields, field_of}
+use Rattle.fibs_fields.specs.Board.{BoardFields, field_of}
 use Rattle.fibs_position.specs.GamePart.{GamePart, Agree, from_to, game_fields, game_part}
 
 -- the numbers of the fields from the first to the last

@@ -5,7 +5,7 @@ use Rattle.std.specs.Str.{bytes_eq}
 use Rattle.std.proofs.lemmas.Bool.{and_parts, and_from, cases_Bool}
 use Rattle.std.proofs.lemmas.Bool.Decides.{nat_tests}
 use Rattle.std.proofs.lemmas.Slice.Eq.{bytes_eq-Decides}
-use Rattle.fibs_boards.specs.Board.{BoardFields, IsBoard, is_board}
+use Rattle.fibs_fields.specs.Board.{BoardFields, IsBoard, is_board}
 use Rattle.fibs_position.specs.OwnView.{own_placed, other_placed}
 use Rattle.fibs_position.specs.GoodBoard.{IsGood, good}
 use Rattle.fibs_position.specs.Laws.{GoodIsExact}

@@ -2,7 +2,7 @@
 use Rattle.std.proofs.Common.{◌≡◌, ◌≤◌, [], ◌∷◌, codes, inl, inr, sym, true, false, refl}
 use Rattle.std.specs.Prelude.{◌↔◌, ◌≢◌, Result, Ok, Err, IsOk, is_ok}
 use Rattle.std.proofs.lemmas.Bool.{false≢true}
-use Rattle.fibs_boards.specs.Board.{BoardFields, IsBoard}
+use Rattle.fibs_fields.specs.Board.{BoardFields, IsBoard}
 use Rattle.fibs_position.specs.First.{IsFirst}
 use Rattle.fibs_position.specs.GoodBoard.{IsGood, HasFault, faults, good}
 use Rattle.fibs_position.specs.OwnView.{own_placed, other_placed}

@@ -3,8 +3,8 @@ use Rattle.std.proofs.Common.{◌≡◌, ℕ, ◌≤◌, ◌+◌, ◌-◌, List,
 use Rattle.std.specs.Prelude.{ℤ, pos, negsuc, ◌≤ℤ◌, map}
 use Rattle.std.specs.List.{range_with_len}
 use Rattle.std.proofs.lemmas.List.FromFn.{map-range_with_len_more}
-use Rattle.fibs_boards.specs.Board.{BoardFields, can_have}
-use Rattle.fibs_boards.specs.FieldRanges.{FieldRanges}
+use Rattle.fibs_fields.specs.Board.{BoardFields, can_have}
+use Rattle.fibs_fields.specs.FieldRanges.{FieldRanges}
 use Rattle.fibs_position.specs.OwnView.{places}
 use Rattle.fibs_position.specs.BoardEffect.{set_field, set_fields}
 

@@ -3,8 +3,8 @@ use Rattle.std.proofs.Common.{◌≡◌, ℕ, zero, suc, ◌+◌, ◌<◌, ◌�
 use Rattle.std.specs.Prelude.{ℤ, negsuc, neg_ℤ, map}
 use Rattle.std.specs.Ordering.{int_eq}
 use Rattle.std.specs.List.{range_with_len}
-use Rattle.fibs_boards.specs.Board.{BoardFields, field_of}
-use Rattle.fibs_boards.specs.FieldRanges.{FieldRanges}
+use Rattle.fibs_fields.specs.Board.{BoardFields, field_of}
+use Rattle.fibs_fields.specs.FieldRanges.{FieldRanges}
 use Rattle.fibs_position.specs.declared.direction.Direction.TheVariants.{Down, Up}
 use Rattle.fibs_position.specs.DirectionOf.{direction_of, line_place}
 use Rattle.fibs_position.specs.OwnView.{colour, place_field, checkers_of, stand_on, on_places, own_placed, other_placed}

@@ -4,7 +4,7 @@ use Rattle.std.specs.Prelude.{◌≢◌}
 use Rattle.std.specs.Str.{bytes_eq}
 use Rattle.std.proofs.lemmas.Bool.{and_parts, and_from, cases_Bool, false≢true}
 use Rattle.std.proofs.lemmas.Slice.Eq.{bytes_eq-Decides}
-use Rattle.fibs_boards.specs.Board.{BoardFields, is_board}
+use Rattle.fibs_fields.specs.Board.{BoardFields, is_board}
 use Rattle.fibs_position.specs.OwnView.{own_placed, other_placed}
 use Rattle.fibs_position.specs.Watched.{IsWatched, watched, WatchedIsExact, WatchedIsNotGood}
 use Rattle.fibs_position.proofs.BoardLemmas.GoodTest.{BoardTest, le_tells, le_from, good_fails}

@@ -5,8 +5,8 @@ use Rattle.std.specs.Bool.{Decides}
 use Rattle.std.specs.Ordering.{int_eq}
 use Rattle.std.proofs.lemmas.Int.{ints}
 use Rattle.std.proofs.lemmas.Bool.Decides.{Decides-and, Decides-not, Decides-eqb, Decides-int_eq}
-use Rattle.fibs_boards.specs.Board.{BoardFields, IsBoard, field_of}
-use Rattle.fibs_boards.specs.FieldRanges.{FieldRanges}
+use Rattle.fibs_fields.specs.Board.{BoardFields, IsBoard, field_of}
+use Rattle.fibs_fields.specs.FieldRanges.{FieldRanges}
 use Rattle.fibs_fields.specs.FieldReading.{natural}
 use Rattle.fibs_position.specs.PositionValue.{PositionValue, position_of}
 use Rattle.fibs_rules.specs.Runs.{Standing, CanMove, can_move}

@@ -1,8 +1,8 @@
 -- What is allowed is a decision of the user's, which a player can make, and which is carried out.
 use Rattle.std.proofs.Common.{◌≡◌, ◌∷◌, Bool, true, false, not, cond, Option, [], None, Some, refl}
 use Rattle.std.specs.Prelude.{find}
-use Rattle.fibs_boards.specs.Board.{BoardFields}
-use Rattle.fibs_boards.specs.FieldRanges.{FieldRanges}
+use Rattle.fibs_fields.specs.Board.{BoardFields}
+use Rattle.fibs_fields.specs.FieldRanges.{FieldRanges}
 use Rattle.fibs_position.specs.OwnView.{standing_of}
 use Rattle.fibs_position.specs.PositionValue.{position_of}
 use Rattle.fibs_position.specs.DecisionValue.{DecisionValue, roll, double, accept, reject, move, resign, IsDecision}

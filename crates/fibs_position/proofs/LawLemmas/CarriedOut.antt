@@ -6,8 +6,8 @@ use Rattle.std.specs.Prelude.{ℤ, pos, neg_ℤ, ◌+ℤ◌, ◌≤ℤ◌, ◌==
 use Rattle.std.specs.Ordering.{int_eq}
 use Rattle.std.proofs.lemmas.Int.{ints}
 use Rattle.std.proofs.lemmas.Bool.Decides.{Decides-int_eq}
-use Rattle.fibs_boards.specs.Board.{BoardFields, IsBoard, field_of, can_have, field_values}
-use Rattle.fibs_boards.specs.FieldRanges.{FieldRanges}
+use Rattle.fibs_fields.specs.Board.{BoardFields, IsBoard, field_of, can_have, field_values}
+use Rattle.fibs_fields.specs.FieldRanges.{FieldRanges}
 use Rattle.fibs_position.specs.First.{IsFirst}
 use Rattle.fibs_position.specs.GoodBoard.{IsGood}
 use Rattle.fibs_fields.specs.FieldReading.{natural}

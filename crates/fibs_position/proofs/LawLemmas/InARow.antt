@@ -1,8 +1,8 @@
 -- Decisions carried out one after another: a roll and one more.
 use Rattle.std.proofs.Common.{◌≡◌, ◌≢◌, ℕ, ◌⊎◌, inl, inr, List, [], ◌∷◌, refl, sym, ap, ◌∙◌, arith, lit≤, cond}
 use Rattle.std.specs.Prelude.{ℤ, pos, neg_ℤ, ◌+ℤ◌, ◌==◌, slice_index}
-use Rattle.fibs_boards.specs.Board.{BoardFields, IsBoard, field_of}
-use Rattle.fibs_boards.specs.FieldRanges.{FieldRanges}
+use Rattle.fibs_fields.specs.Board.{BoardFields, IsBoard, field_of}
+use Rattle.fibs_fields.specs.FieldRanges.{FieldRanges}
 use Rattle.fibs_rules.specs.Hop.{Hop}
 use Rattle.fibs_fields.specs.FieldReading.{natural}
 use Rattle.fibs_position.specs.OwnView.{turn, colour, NoDice}

@@ -3,7 +3,7 @@ use Rattle.std.proofs.Common.{◌≡◌, ℕ, List, [], ◌∷◌, ◌++◌, len
 use Rattle.std.proofs.Common.{append-nil, refl, ap, sym, ◌∙◌, subst, inl, inr}
 use Rattle.std.specs.Result.{IsErrOf}
 use Rattle.std.specs.Io.KnownBytes.{Appends}
-use Rattle.fibs_boards.specs.Board.{BoardFields}
+use Rattle.fibs_fields.specs.Board.{BoardFields}
 use Rattle.fibs_session.specs.History.Log.{Entry}
 use Rattle.fibs_model.specs.Carrying.{Crossing, Joins}
 use Rattle.fibs_model.specs.Crossings.{CrossingsJoin, crossings, crossings_of}
@@ -12,16 +12,16 @@ use Rattle.fibs_model.specs.Runs.{world_after}
 use Rattle.fibs_model.specs.WorldOf.{WorldValue}
 use Rattle.fibs_model.specs.declared.halt.Stop.{Stop}
 use Rattle.fibs_model.specs.declared.halt.Stop.TheVariants as S
-use Rattle.fibs_machine.specs.declared.refusal.WorldRefusal.{WorldRefusal}
-use Rattle.fibs_machine.specs.declared.refusal.WorldRefusal.TheVariants as W
+use Rattle.fibs_model.specs.declared.machine.refusal.WorldRefusal.{WorldRefusal}
+use Rattle.fibs_model.specs.declared.machine.refusal.WorldRefusal.TheVariants as W
 use Rattle.fibs_engine.specs.Printing.{Printed}
 use Rattle.fibs_engine.specs.declared.fault.EngineFault.{EngineFault}
 use Rattle.fibs_engine.specs.declared.fault.EngineFault.TheVariants as fault
 use Rattle.fibs_replay.specs.Carried.{IsLast, CarriedFor, Carried}
-use Rattle.fibs_scripts.specs.LogLines.{log_text}
-use Rattle.fibs_scripts.specs.Output.{script_login, ReadWhole, unread_text, end_text, refused_text, log_after}
+use Rattle.fibs_replay.specs.LogLines.{log_text}
+use Rattle.fibs_replay.specs.Output.{script_login, ReadWhole, unread_text, end_text, refused_text, log_after}
 use Rattle.fibs_replay.specs.Running.{StandsFrom, RanTo, GaveUp, RunPrinted}
-use Rattle.fibs_scripts.specs.Scripts.{script_lines, SayScript}
+use Rattle.fibs_replay.specs.Scripts.{script_lines, SayScript}
 use Rattle.fibs_replay.proofs.ReplayLemmas.Runs.{may_be_none}
 
 -- the events in front

@@ -3,7 +3,7 @@ use Rattle.std.proofs.Common.{◌≡◌, Bool, true, false, if◌then◌else◌,
 use Rattle.std.proofs.Common.{Option, Some, None, Result, Ok, Err, IfOk, refl, ap, sym, ◌∙◌, subst}
 use Rattle.std.proofs.Common.{arith, append_assoc, append-nil, length-append, inl, inr}
 use Rattle.std.specs.Result.{IsErrOf}
-use Rattle.fibs_boards.specs.Board.{BoardFields, BoardText}
+use Rattle.fibs_fields.specs.Board.{BoardFields, BoardText}
 use Rattle.fibs_position.specs.GoodBoard.{good, IsGood}
 use Rattle.fibs_position.specs.Laws.{GoodIsExact}
 use Rattle.fibs_session.specs.History.Log.{Entry}
@@ -14,22 +14,22 @@ use Rattle.fibs_model.specs.Runs.{AllAccepted, after_all, MayBe, world_after}
 use Rattle.fibs_model.specs.World.{World, start, after}
 use Rattle.fibs_model.specs.WorldCalls.{Tells, Halts, HaltsAt}
 use Rattle.fibs_model.specs.WorldOf.{WorldValue}
-use Rattle.fibs_model_server.specs.declared.event.Event.{Event as ProgramEvent}
+use Rattle.fibs_model.specs.declared.event.Event.{Event as ProgramEvent}
 use Rattle.fibs_model.specs.declared.halt.Stop.{Stop}
 use Rattle.fibs_model.specs.declared.halt.Stop.TheVariants as S
-use Rattle.fibs_machine.specs.declared.refusal.WorldRefusal.{WorldRefusal}
-use Rattle.fibs_machine.specs.declared.refusal.WorldRefusal.TheVariants as W
+use Rattle.fibs_model.specs.declared.machine.refusal.WorldRefusal.{WorldRefusal}
+use Rattle.fibs_model.specs.declared.machine.refusal.WorldRefusal.TheVariants as W
 use Rattle.fibs_engine.specs.declared.fault.EngineFault.{EngineFault}
 use Rattle.fibs_engine.specs.declared.fault.EngineFault.TheVariants as fault
 use Rattle.fibs_engine.specs.Printing.{Printed}
-use Rattle.fibs_scripts.specs.LogLines.{log_text}
-use Rattle.fibs_scripts.specs.Output.{script_login, unread_text, end_text, refused_text, log_after, ReplayText}
-use Rattle.fibs_scripts.specs.Output.{refused, to_the_end, LogOf, Replayed}
-use Rattle.fibs_scripts.specs.Output.{LoggedInPart, ReplayFailed, ReplayedInPart, ReadWhole, ReadLines}
+use Rattle.fibs_replay.specs.LogLines.{log_text}
+use Rattle.fibs_replay.specs.Output.{script_login, unread_text, end_text, refused_text, log_after, ReplayText}
+use Rattle.fibs_replay.specs.Output.{refused, to_the_end, LogOf, Replayed}
+use Rattle.fibs_replay.specs.Output.{LoggedInPart, ReplayFailed, ReplayedInPart, ReadWhole, ReadLines}
 use Rattle.fibs_replay.specs.Running.{StandsFrom, RanTo, Broke, RunPrinted, PrintedFor}
-use Rattle.fibs_scripts.specs.Scripts.{script_limit, script_lines, SayEvents, SayScript}
-use Rattle.fibs_scripts.specs.declared.script.Script.TheVariants.{Unreadable}
-use Rattle.fibs_scripts.proofs.ScriptLemmas.Scripts.{ReadsLine}
+use Rattle.fibs_replay.specs.Scripts.{script_limit, script_lines, SayEvents, SayScript}
+use Rattle.fibs_replay.specs.declared.script.Script.TheVariants.{Unreadable}
+use Rattle.fibs_replay.proofs.ScriptLemmas.Scripts.{ReadsLine}
 
 -- events that may be
 

@@ -1,10 +1,10 @@
 use Rattle.std.proofs.Common.{◌∙◌, [], ap, sym, subst, codes, map}
-use Rattle.fibs_boards.specs.StoredBoard.{fields_of}
+use Rattle.fibs_fields.specs.StoredBoard.{fields_of}
 use Rattle.fibs_commands.specs.LoginOf.{name_of}
 use Rattle.fibs_model.specs.EntryOf.{entry_of}
 use Rattle.fibs_model.specs.WorldCalls.{WorldStandsAfter}
-use Rattle.fibs_scripts.specs.Output.{bad_board, refused_text}
-use Rattle.fibs_scripts.specs.Scripts.{script_lines}
+use Rattle.fibs_replay.specs.Output.{bad_board, refused_text}
+use Rattle.fibs_replay.specs.Scripts.{script_lines}
 use Rattle.fibs_replay.proofs.ReplayLemmas.Carrying.{run_carried, none_carried}
 use Rattle.fibs_replay.proofs.ReplayLemmas.Runs.{first_read, bad_first, good_first, printed_for, printed_run}
 use Rattle.fibs_replay.proofs.replay_readable.Goals as goal

@@ -4,10 +4,10 @@ use Rattle.std.proofs.Common.{option_map, refl, sym, ◌∙◌, ap, subst, appen
 use Rattle.std.proofs.Math.Seq.{drop-append_seam}
 use Rattle.fibs_lines.specs.Lines.{ReadLine, lines_of}
 use Rattle.fibs_lines.specs.LinesValue.{StandsAfter as LinesStandAfter}
-use Rattle.fibs_history.specs.Hearing.{nothing_heard, line_reading}
-use Rattle.fibs_history.specs.Words.{Ask}
-use Rattle.fibs_history.specs.Machine.{Talk, Piece, stays, is_online, reads, hears, hears_all, heard_by}
-use Rattle.fibs_history.specs.Machine.{line_heard, with_bytes, gained}
+use Rattle.fibs_session.specs.History.Hearing.{nothing_heard, line_reading}
+use Rattle.fibs_session.specs.History.Words.{Ask}
+use Rattle.fibs_session.specs.History.Machine.{Talk, Piece, stays, is_online, reads, hears, hears_all, heard_by}
+use Rattle.fibs_session.specs.History.Machine.{line_heard, with_bytes, gained}
 use Rattle.fibs_session.specs.Calls.SessionValue.{SessionValue}
 use Rattle.fibs_session.specs.Calls.SessionOf.{TakenValue, ask_of}
 use Rattle.fibs_session.specs.Calls.ClientOf.{answer_commands, commands_in}

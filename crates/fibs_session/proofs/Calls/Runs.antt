@@ -5,8 +5,8 @@ use Rattle.std.proofs.lemmas.List.{take-append-drop, length-drop, take_all}
 use Rattle.std.proofs.Math.Seq.{drop-cons}
 use Rattle.std.proofs.Math.ListN.{drop_of_length-le}
 use Rattle.std.proofs.lemmas.List.Concat.{flat_map-append}
-use Rattle.fibs_history.specs.Machine.{Talk, InputValue, Piece, step, run, on_wire, wire_of}
-use Rattle.fibs_history.specs.MachineLaws.{PiecesJoin}
+use Rattle.fibs_session.specs.History.Machine.{Talk, InputValue, Piece, step, run, on_wire, wire_of}
+use Rattle.fibs_session.specs.History.MachineLaws.{PiecesJoin}
 use Rattle.fibs_session.specs.Calls.Standing.{ClientValue, StandsAfter}
 use Rattle.fibs_session.specs.Calls.Writing.{Writes}
 

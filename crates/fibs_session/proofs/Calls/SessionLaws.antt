@@ -5,17 +5,17 @@ use Rattle.fibs_lines.specs.Lines.{ReadLine}
 use Rattle.fibs_position.specs.DecisionValue.{DecisionValue}
 use Rattle.fibs_position.specs.GamePart.{same_game}
 use Rattle.fibs_commands.specs.PlainCommands.{PlainValue, plain_of}
-use Rattle.fibs_history.specs.declared.refusal.Refusal.{Refusal}
-use Rattle.fibs_history.specs.declared.refusal.Refusal.TheVariants.{AlreadyOpen}
-use Rattle.fibs_history.specs.declared.refusal.PlainRefusal.{PlainRefusal}
-use Rattle.fibs_history.specs.Log.{Lost}
-use Rattle.fibs_history.specs.Words.{Ask, IsLikeness, last, open_now, shown, unconfirmed}
-use Rattle.fibs_history.specs.Hearing.{nothing_heard, line_reading}
-use Rattle.fibs_history.specs.Machine.{Talk, Step, Open, Lose, Click, PlainInput, start, stays, does, is_online}
-use Rattle.fibs_history.specs.Machine.{opened, opens, open_refusal, loses, unconfirmed_now, clicks, plains}
-use Rattle.fibs_history.specs.Machine.{answer_now, plain_refusal, heard_by, line_heard, hears, shown_now}
-use Rattle.fibs_history.specs.Machine.{ordered_now, Order, Withdraw, order_refusal, withdraw_refusal, orders_on}
-use Rattle.fibs_history.specs.Machine.{withdraws}
+use Rattle.fibs_session.specs.declared.histories.refusal.Refusal.{Refusal}
+use Rattle.fibs_session.specs.declared.histories.refusal.Refusal.TheVariants.{AlreadyOpen}
+use Rattle.fibs_session.specs.declared.histories.refusal.PlainRefusal.{PlainRefusal}
+use Rattle.fibs_session.specs.History.Log.{Lost}
+use Rattle.fibs_session.specs.History.Words.{Ask, IsLikeness, last, open_now, shown, unconfirmed}
+use Rattle.fibs_session.specs.History.Hearing.{nothing_heard, line_reading}
+use Rattle.fibs_session.specs.History.Machine.{Talk, Step, Open, Lose, Click, PlainInput, start, stays, does, is_online}
+use Rattle.fibs_session.specs.History.Machine.{opened, opens, open_refusal, loses, unconfirmed_now, clicks, plains}
+use Rattle.fibs_session.specs.History.Machine.{answer_now, plain_refusal, heard_by, line_heard, hears, shown_now}
+use Rattle.fibs_session.specs.History.Machine.{ordered_now, Order, Withdraw, order_refusal, withdraw_refusal, orders_on}
+use Rattle.fibs_session.specs.History.Machine.{withdraws}
 use Rattle.fibs_session.specs.Calls.SessionValue.{SessionValue, IsNoToggle, At}
 use Rattle.fibs_session.specs.Calls.FieldSteps.{fresh, lost, unheard, line_fields, heard_fields, answer_of, with_ask}
 use Rattle.fibs_session.specs.Calls.FieldSteps.{open_fields, open_send, open_refusal_of, lose_fields, decide_fields}

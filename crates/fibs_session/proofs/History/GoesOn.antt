@@ -1,13 +1,13 @@
 -- A client goes on: by the entries of a server, and by its own calls.
 use Rattle.std.proofs.Common.{[], ◌∷◌, refl, sym, subst}
-use Rattle.fibs_history.specs.Log.{Entry}
-use Rattle.fibs_history.specs.Machine.{start, run, noted}
-use Rattle.fibs_history.specs.MachineLaws.{IsServers, logs_in, takes, undoes}
+use Rattle.fibs_session.specs.History.Log.{Entry}
+use Rattle.fibs_session.specs.History.Machine.{start, run, noted}
+use Rattle.fibs_session.specs.History.MachineLaws.{IsServers, logs_in, takes, undoes}
 use Rattle.fibs_session.specs.Calls.ClientLaws.{ServersEntriesAreSilent, InputsGoOn}
 use Rattle.fibs_session.specs.Calls.SessionValue.{At}
 use Rattle.fibs_session.specs.Calls.Standing.{StandsAfter}
-use Rattle.fibs_history.proofs.Joins.{run_more}
-use Rattle.fibs_history.proofs.Past.{open_append}
+use Rattle.fibs_session.proofs.History.Joins.{run_more}
+use Rattle.fibs_session.proofs.History.Past.{open_append}
 use Rattle.fibs_session.proofs.History.Fields.{at_silent}
 use Rattle.fibs_session.proofs.History.Texts.{no_texts}
 

@@ -6,10 +6,10 @@ use Rattle.fibs_position.specs.DecisionValue.{DecisionValue, roll, double, accep
 use Rattle.fibs_position.specs.declared.direction.Direction.{Direction}
 use Rattle.fibs_commands.specs.Commands.{command_of}
 use Rattle.fibs_messages.specs.Flags.{autoboard, moreboards}
-use Rattle.fibs_history.specs.Hearing.{initial_commands}
+use Rattle.fibs_session.specs.History.Hearing.{initial_commands}
 use Rattle.fibs_commands.specs.FirstCommands.{style_text, autoboard_text, moreboards_text, board_text}
 use Rattle.fibs_commands.specs.PlainCommands.{automove_off, greedy_off, plain_of}
-use Rattle.fibs_history.specs.Machine.{was_sent}
+use Rattle.fibs_session.specs.History.Machine.{was_sent}
 use Rattle.fibs_session.specs.Calls.SessionValue.{IsNoToggle}
 
 -- none of the texts is sent to turn something off

@@ -1,8 +1,8 @@
 -- Laws of a client, for callers.
 use Rattle.std.specs.Prelude.{ℕ, List, [], ◌∷◌, ◌++◌}
-use Rattle.fibs_history.specs.Log.{Entry}
-use Rattle.fibs_history.specs.Machine.{Talk, InputValue, noted}
-use Rattle.fibs_history.specs.MachineLaws.{IsServers}
+use Rattle.fibs_session.specs.History.Log.{Entry}
+use Rattle.fibs_session.specs.History.Machine.{Talk, InputValue, noted}
+use Rattle.fibs_session.specs.History.MachineLaws.{IsServers}
 use Rattle.fibs_session.specs.Calls.Standing.{ClientValue, StandsAfter, StandsAfterInputs}
 use Rattle.fibs_session.specs.Calls.Doing.{Does}
 

@@ -2,8 +2,8 @@
 use Rattle.std.specs.Prelude.{ℕ, List, [], Option, None, Some}
 use Rattle.fibs_lines.specs.Lines.{ReadLine}
 use Rattle.fibs_messages.specs.Line.{ReadingValue, board_line, text_line, malformed_line}
-use Rattle.fibs_boards.specs.StoredBoard.{fields_of}
-use Rattle.fibs_history.specs.Hearing.{line_reading}
+use Rattle.fibs_fields.specs.StoredBoard.{fields_of}
+use Rattle.fibs_session.specs.History.Hearing.{line_reading}
 use Rattle.fibs_session.specs.Calls.SessionOf.{texts_of}
 use Rattle.fibs_session.specs.declared.client.owned_reading.OwnedReading.{OwnedReading}
 use Rattle.fibs_session.specs.declared.client.owned_reading.OwnedReading.TheVariants as K

@@ -1,8 +1,8 @@
 -- What a call does: an input of the machine.
 use Rattle.std.specs.Prelude.{◌≡◌, ℕ, Bool, List, Option}
 use Rattle.fibs_lines.specs.Lines.{ReadLine}
-use Rattle.fibs_history.specs.Words.{Ask}
-use Rattle.fibs_history.specs.Machine.{Talk, InputValue, step, line_heard, hears}
+use Rattle.fibs_session.specs.History.Words.{Ask}
+use Rattle.fibs_session.specs.History.Machine.{Talk, InputValue, step, line_heard, hears}
 use Rattle.fibs_session.specs.Calls.SessionValue.{SessionValue}
 use Rattle.fibs_session.specs.Calls.Standing.{SessionStandsAfter, ClientValue, StandsAfter}
 

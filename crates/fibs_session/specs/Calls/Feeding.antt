@@ -3,9 +3,9 @@ use Rattle.std.specs.Prelude.{◌≡◌, ℕ, ◌<◌, Bool, true, false, List, 
 use Rattle.std.specs.Prelude.{option_map, IsNone}
 use Rattle.fibs_lines.specs.Lines.{ReadLine, lines_of}
 use Rattle.fibs_lines.specs.LinesValue.{StandsAfter as LinesStandAfter}
-use Rattle.fibs_history.specs.Words.{Ask}
-use Rattle.fibs_history.specs.Hearing.{line_reading}
-use Rattle.fibs_history.specs.Machine.{Talk, Piece, step, is_online, line_heard}
+use Rattle.fibs_session.specs.History.Words.{Ask}
+use Rattle.fibs_session.specs.History.Hearing.{line_reading}
+use Rattle.fibs_session.specs.History.Machine.{Talk, Piece, step, is_online, line_heard}
 use Rattle.fibs_session.specs.Calls.SessionValue.{SessionValue}
 use Rattle.fibs_session.specs.Calls.SessionOf.{TakenValue, texts_of, ask_of}
 use Rattle.fibs_session.specs.Calls.ClientOf.{lent_reading}

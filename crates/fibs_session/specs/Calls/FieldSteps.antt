@@ -2,7 +2,7 @@
 use Rattle.std.specs.Prelude.{ℕ, Bool, true, false, not, ◌&&◌, ◌||◌, List, [], ◌∷◌, Option, Some, None, option_map}
 use Rattle.std.specs.Prelude.{if◌then◌else◌, is_some, is_none, nat_eq, pos}
 use Rattle.std.specs.Ordering.{int_eq}
-use Rattle.fibs_boards.specs.Board.{BoardFields, field_of}
+use Rattle.fibs_fields.specs.Board.{BoardFields, field_of}
 use Rattle.fibs_messages.specs.Message.{MessageValue}
 use Rattle.fibs_messages.specs.Line.{ReadingValue, numbered_line, board_line, text_line, malformed_line}
 use Rattle.fibs_position.specs.DecisionValue.{DecisionValue, roll}
@@ -13,16 +13,17 @@ use Rattle.fibs_position.specs.GamePart.{same_game}
 use Rattle.fibs_position.specs.Phases.{phase_of}
 use Rattle.fibs_commands.specs.FirstCommands.{style_text}
 use Rattle.fibs_commands.specs.PlainCommands.{PlainValue, automove_off, greedy_off, plain_fault_of, plain_of}
-use Rattle.fibs_history.specs.declared.refusal.Refusal.{Refusal}
-use Rattle.fibs_history.specs.declared.refusal.Refusal.TheVariants.{AlreadyOpen, Offline, NotReady, ServerPlays}
-use Rattle.fibs_history.specs.declared.refusal.Refusal.TheVariants.{AlreadyOrdered, NotOrdered}
-use Rattle.fibs_history.specs.declared.refusal.PlainRefusal.{PlainRefusal}
-use Rattle.fibs_history.specs.declared.refusal.PlainRefusal.TheVariants as P
-use Rattle.fibs_history.specs.Words.{Ask, one_if, if_board, plays_itself}
-use Rattle.fibs_history.specs.Hearing.{flags_of, initial_commands}
-use Rattle.fibs_history.specs.Allows.{allows}
-use Rattle.fibs_history.specs.Orders.{is_to_roll}
-use Rattle.fibs_history.specs.Machine.{flag_is_on}
+use Rattle.fibs_session.specs.declared.histories.refusal.Refusal.{Refusal}
+use Rattle.fibs_session.specs.declared.histories.refusal.Refusal.TheVariants.{AlreadyOpen, Offline, NotReady}
+use Rattle.fibs_session.specs.declared.histories.refusal.Refusal.TheVariants.{ServerPlays}
+use Rattle.fibs_session.specs.declared.histories.refusal.Refusal.TheVariants.{AlreadyOrdered, NotOrdered}
+use Rattle.fibs_session.specs.declared.histories.refusal.PlainRefusal.{PlainRefusal}
+use Rattle.fibs_session.specs.declared.histories.refusal.PlainRefusal.TheVariants as P
+use Rattle.fibs_session.specs.History.Words.{Ask, one_if, if_board, plays_itself}
+use Rattle.fibs_session.specs.History.Hearing.{flags_of, initial_commands}
+use Rattle.fibs_session.specs.History.Allows.{allows}
+use Rattle.fibs_session.specs.History.Orders.{is_to_roll}
+use Rattle.fibs_session.specs.History.Machine.{flag_is_on}
 use Rattle.fibs_session.specs.Calls.SessionValue.{SessionValue}
 
 abbrev pub fresh : List ℕ → Bool → SessionValue

@@ -1,6 +1,6 @@
 -- Inputs as values.
 use Rattle.fibs_position.specs.DecisionValue.{decision_of}
-use Rattle.fibs_history.specs.Machine.{InputValue, Open, Lose, Piece, Click, PlainInput, Order, Withdraw}
+use Rattle.fibs_session.specs.History.Machine.{InputValue, Open, Lose, Piece, Click, PlainInput, Order, Withdraw}
 use Rattle.fibs_commands.specs.PlainOf.{plain_value}
 use Rattle.fibs_session.specs.declared.client.input.Input.{Input}
 use Rattle.fibs_session.specs.declared.client.input.Input.TheVariants as I

@@ -4,7 +4,7 @@ use Rattle.fibs_lines.specs.Lines.{ReadLine}
 use Rattle.fibs_lines.specs.Lines.{value_of}
 use Rattle.fibs_messages.specs.Line.{ReadingValue}
 use Rattle.fibs_messages.specs.Line.{reading_of}
-use Rattle.fibs_boards.specs.StoredBoard.{fields_of}
+use Rattle.fibs_fields.specs.StoredBoard.{fields_of}
 use Rattle.fibs_position.specs.DecisionValue.{decision_of}
 use Rattle.fibs_position.specs.GameOf.{game_of}
 use Rattle.fibs_commands.specs.TextOf.{text_of}
@@ -13,8 +13,8 @@ use Rattle.fibs_session.specs.declared.taken.Outstanding.{Outstanding}
 use Rattle.fibs_session.specs.declared.taken.Taken.{Taken}
 use Rattle.fibs_session.specs.declared.session.ServerFlags.{ServerFlags}
 use Rattle.fibs_session.specs.declared.session.Session.{Session}
-use Rattle.fibs_history.specs.Log.{Flags}
-use Rattle.fibs_history.specs.Words.{Ask}
+use Rattle.fibs_session.specs.History.Log.{Flags}
+use Rattle.fibs_session.specs.History.Words.{Ask}
 use Rattle.fibs_commands.specs.LoginOf.{login_of}
 use Rattle.fibs_session.specs.Calls.SessionValue.{SessionValue}
 

@@ -1,14 +1,14 @@
 -- A session's fields as values, and what a history says of each. No public contract opens it.
 use Rattle.std.specs.Prelude.{◌≡◌, ℕ, Bool, false, not, List, Option, nat_eq}
 use Rattle.std.specs.Str.{bytes_eq}
-use Rattle.fibs_boards.specs.Board.{BoardFields}
+use Rattle.fibs_fields.specs.Board.{BoardFields}
 use Rattle.fibs_position.specs.GamePart.{same_game}
 use Rattle.fibs_commands.specs.PlainCommands.{automove_off, greedy_off, plain_of}
-use Rattle.fibs_history.specs.Log.{Flags}
-use Rattle.fibs_history.specs.Words.{Ask, is_empty, last, open_now, shown, welcomed}
-use Rattle.fibs_history.specs.Words.{informed, is_ordered, unconfirmed}
-use Rattle.fibs_history.specs.Machine.{Talk, was_sent}
-use Rattle.fibs_history.specs.Numbering.{Numbered}
+use Rattle.fibs_session.specs.History.Log.{Flags}
+use Rattle.fibs_session.specs.History.Words.{Ask, is_empty, last, open_now, shown, welcomed}
+use Rattle.fibs_session.specs.History.Words.{informed, is_ordered, unconfirmed}
+use Rattle.fibs_session.specs.History.Machine.{Talk, was_sent}
+use Rattle.fibs_session.specs.History.Numbering.{Numbered}
 
 -- what a session keeps
 pub record SessionValue : Type 0 where

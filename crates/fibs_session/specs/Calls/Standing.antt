@@ -1,7 +1,7 @@
 -- A client is reached by what has happened.
 use Rattle.std.specs.Prelude.{ℕ, List}
 use Rattle.fibs_lines.specs.LinesValue.{LinesValue, StandsAfter as LinesStandAfter}
-use Rattle.fibs_history.specs.Machine.{Talk, InputValue, start, run}
+use Rattle.fibs_session.specs.History.Machine.{Talk, InputValue, start, run}
 use Rattle.fibs_session.specs.Calls.SessionValue.{SessionValue, At}
 
 -- a session is reached by what has happened. Callers use this name, and never unfold it

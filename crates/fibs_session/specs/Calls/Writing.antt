@@ -1,6 +1,6 @@
 -- What a call of the client writes.
 use Rattle.std.specs.Prelude.{◌≡◌, ◌++◌, ℕ, List}
-use Rattle.fibs_history.specs.Machine.{InputValue, wire_of}
+use Rattle.fibs_session.specs.History.Machine.{InputValue, wire_of}
 use Rattle.fibs_session.specs.Calls.Standing.{ClientValue}
 use Rattle.fibs_session.specs.Calls.Doing.{Does}
 

@@ -2,12 +2,12 @@
 ghost use Rattle.std.specs.Prelude.{◌≡◌};
 ghost use Rattle.fibs_position.specs.DecisionValue.{decision_of};
 ghost use Rattle.fibs_session.specs.Calls.Standing.{StandsAfter};
-ghost use Rattle.fibs_history.specs.Machine.{Talk, answer_now, plain_refusal};
+ghost use Rattle.fibs_session.specs.History.Machine.{Talk, answer_now, plain_refusal};
 ghost use Rattle.fibs_commands.specs.PlainOf.{plain_value};
 
 use super::Client;
+use crate::histories::{PlainRefusal, Refusal};
 use fibs_commands::Plain;
-use fibs_history::{PlainRefusal, Refusal};
 use fibs_position::Decision;
 
 impl Client {

@@ -2,7 +2,7 @@
 
 ghost use Rattle.std.specs.Prelude.{◌≡◌, [], None, false, option_map};
 ghost use Rattle.fibs_lines.specs.Lines.{value_of};
-ghost use Rattle.fibs_history.specs.Hearing.{line_reading};
+ghost use Rattle.fibs_session.specs.History.Hearing.{line_reading};
 ghost use Rattle.fibs_session.specs.Calls.Doing.{SessionHears};
 ghost use Rattle.fibs_session.specs.declared.client.owned_reading.OwnedReading.TheVariants.{Numbered};
 

@@ -3,7 +3,7 @@
 
 ghost use Rattle.fibs_session.specs.Calls.ClientLaws.{InputsGoOn, ServersEntriesAreSilent};
 
-pub use fibs_history::laws::{
+pub use crate::histories::laws::{
     a_due_order_says, empty_piece_is_nothing, lines_open_no_connection, pieces_join,
     pieces_take_from_the_entries_owed, pieces_take_from_what_is_owed,
 };

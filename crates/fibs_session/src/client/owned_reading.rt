@@ -4,10 +4,10 @@ ghost use Rattle.std.specs.Prelude.{◌≡◌};
 ghost use Rattle.fibs_lines.specs.Lines.{value_of};
 ghost use Rattle.fibs_lines.specs.Lines.{ReadLine};
 ghost use Rattle.fibs_messages.specs.Line.{reading_of};
-ghost use Rattle.fibs_history.specs.Hearing.{line_reading};
+ghost use Rattle.fibs_session.specs.History.Hearing.{line_reading};
 
-use fibs_boards::Board;
-use fibs_history::read_line;
+use crate::histories::read_line;
+use fibs_fields::boards::Board;
 use fibs_lines::Line;
 use fibs_messages::{Fault, Reading, laws};
 

@@ -4,16 +4,16 @@ ghost use Rattle.std.specs.Prelude.{◌≡◌, ◌≤◌, ◌<◌, ◌++◌, len
 ghost use Rattle.fibs_session.specs.Calls.InputOf.{input_of};
 ghost use Rattle.fibs_session.specs.Calls.SessionOf.{texts_of, taken_of, handed};
 ghost use Rattle.fibs_session.specs.Calls.Writing.{Writes};
-ghost use Rattle.fibs_history.specs.Machine.{Piece, Out, on_wire, wire_of};
+ghost use Rattle.fibs_session.specs.History.Machine.{Piece, Out, on_wire, wire_of};
 ghost use Rattle.fibs_commands.specs.LoginOf.{login_of};
 ghost use Rattle.fibs_commands.specs.TextOf.{text_of};
 
 use super::input::Input;
 use super::{Client, laws};
+use crate::histories::{PlainRefusal, Refusal};
 use crate::taken::Taken;
 use arrayvec::ArrayString;
 use fibs_commands::{AnswerText, CommandText, Login};
-use fibs_history::{PlainRefusal, Refusal};
 use std::alloc::{AllocError, Global};
 
 /// Appends a command with its line end.

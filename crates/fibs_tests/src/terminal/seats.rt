@@ -1,17 +1,17 @@
 //! A client and a terminal, to which a server's lines and typed lines are given.
 
-use fibs_environment::{Settings, Zone};
-use fibs_front::fault::FrontFault;
-use fibs_front::front::Front;
-use fibs_front::said::Said;
-use fibs_front::typed_line::TypedLine;
-use fibs_front::wish::Wish;
-use fibs_front::words::Words;
+use fibs_connect::fault::FrontFault;
+use fibs_connect::front::Front;
+use fibs_connect::said::Said;
+use fibs_connect::typed_line::TypedLine;
+use fibs_connect::wish::Wish;
+use fibs_connect::words::Words;
 use fibs_messages::Reading;
 use fibs_position::GameBoard;
+use fibs_session::typed::typing::{Typed, read_typed};
 use fibs_session::{Client, Directory, Login, Taken};
 use fibs_terminal::Terminal;
-use fibs_typed::typing::{Typed, read_typed};
+use fibs_wording::environment::{Settings, Zone};
 use std::io;
 use std::io::{ErrorKind, Write};
 use std::process::Abort;

@@ -1,9 +1,9 @@
 //! A client at its connection, for the tests of turns.
 ghost use Rattle.std.specs.Prelude.{◌≡◌, true};
-ghost use Rattle.fibs_exchange.specs.Turns.Turn.{FitsStream};
+ghost use Rattle.fibs_connect.specs.Turns.Turn.{FitsStream};
 
+use fibs_connect::turns::{Ending, ExchangeFault, exchange};
 use fibs_engine::link::Link;
-use fibs_exchange::{Ending, ExchangeFault, exchange};
 use fibs_session::{Client, Directory, Login};
 use fibs_test_tools::pipe::{After, Pipe, QUIET};
 use fibs_test_tools::text::{TEXT_ROOM, Text, joined};

@@ -1,6 +1,6 @@
 //! Turns in which the directory has no memory for a player: they say so, and go on.
 ghost use Rattle.std.specs.Prelude.{true};
-ghost use Rattle.fibs_exchange.specs.Turns.Turn.{FitsStream};
+ghost use Rattle.fibs_connect.specs.Turns.Turn.{FitsStream};
 
 use super::connected::{Seat, Step, is_made_of};
 use fibs_session::Directory;

@@ -1,6 +1,6 @@
 //! The command line, from its words to the exit status.
 use super::outcomes::assert_is;
-use crate::fibs_arguments::{Answer, Asked, Call};
+use crate::fibs_cli::arguments::{Answer, Asked, Call};
 use crate::fibs_cli::program::{answer, status};
 use crate::fibs_engine::fault::EngineFault;
 use crate::fibs_test_tools::outcome::Outcome;
@@ -119,7 +119,7 @@ fn served<N: Net<Listener = TcpListener, Stream = TcpStream>>(rt: &N, called: &A
 /// How the program answers a command line, and what it prints.
 fn answered<N: Net<Listener = TcpListener, Stream = TcpStream>>(rt: &N, words: &[&str], input: &[u8]) -> Outcome {
     let line = line_of(words).expect("there is memory for it");
-    match crate::fibs_arguments::read(line.as_slice()) {
+    match crate::fibs_cli::arguments::read(line.as_slice()) {
         Asked::Answer(called) => served(rt, &called, input),
         // no row asks for a server
         Asked::Connect(_) => Outcome::new(Err(EngineFault::Device), b"", b""),
@@ -129,7 +129,7 @@ fn answered<N: Net<Listener = TcpListener, Stream = TcpStream>>(rt: &N, words: &
 /// What a command line asks of a server.
 fn is_call(words: &[&str], wanted: &Call<'_>) -> Result<bool, AllocError> {
     let line = line_of(words)?;
-    Ok(match crate::fibs_arguments::read(line.as_slice()) {
+    Ok(match crate::fibs_cli::arguments::read(line.as_slice()) {
         Asked::Connect(call) => {
             let files = [call.password_file, call.log] == [wanted.password_file, wanted.log];
             files

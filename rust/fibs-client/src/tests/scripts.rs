@@ -1,12 +1,12 @@
 //! Scripts: which lines are which events, the first line that is unreadable, and the lines of the log.
 
-use crate::fibs_boards::Board;
+use crate::fibs_fields::boards::Board;
 use crate::fibs_model::{Entry, Event};
 use crate::fibs_position::{Decision, Play, Stake, Step};
-use crate::fibs_scripts::events::{read_board, read_event};
-use crate::fibs_scripts::input::read_script;
-use crate::fibs_scripts::log_lines::{Portion, append_entry};
-use crate::fibs_scripts::script::first_unreadable;
+use crate::fibs_replay::events::{read_board, read_event};
+use crate::fibs_replay::input::read_script;
+use crate::fibs_replay::log_lines::{Portion, append_entry};
+use crate::fibs_replay::script::first_unreadable;
 use crate::fibs_session::{Outstanding, Plain, Refusal};
 use crate::fibs_test_tools::pipe::{After, FAULT, Pipe};
 use crate::tests::boards::{TO_MOVE_UP, TO_ROLL};

@@ -1,6 +1,6 @@
 -- The numbers are turned, and printed with the names of the line's board.
 use Rattle.std.proofs.Common.{refl, inl, inr}
-use Rattle.fibs_boards.specs.StoredBoard.{fields_of}
+use Rattle.fibs_fields.specs.StoredBoard.{fields_of}
 use Rattle.fibs_c.proofs.board_lines.fibs_turned.Goals as goal
 
 pub returns-in-Err : goal.returns-in-Err

@@ -1,8 +1,8 @@
 use Rattle.std.proofs.Common.{◌+◌, ◌<◌, ℕ, length, length-set, w32, ◌∙◌, sym, subst}
 use Rattle.std.proofs.lemmas.Int.{to_z-of_z}
-use Rattle.fibs_boards.specs.StoredBoard.{fields_of}
+use Rattle.fibs_fields.specs.StoredBoard.{fields_of}
 use Rattle.fibs_c.specs.BoardLineDoor.{turned_field}
-use Rattle.fibs_records.proofs.NumberLemmas.{written}
+use Rattle.fibs_c.proofs.NumberLemmas.{written}
 use Rattle.fibs_c.proofs.board_lines.turned_numbers.Goals as goal
 
 pub loop-i-preserved : goal.loop-i-preserved

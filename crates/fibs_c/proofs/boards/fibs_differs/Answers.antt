@@ -1,6 +1,6 @@
 -- One of the two lines says no board.
 use Rattle.std.proofs.Common.{refl, inl, inr}
-use Rattle.fibs_boards.specs.StoredBoard.{fields_of}
+use Rattle.fibs_fields.specs.StoredBoard.{fields_of}
 use Rattle.fibs_c.proofs.boards.fibs_differs.Goals as goal
 
 pub returns-in-Err : goal.returns-in-Err

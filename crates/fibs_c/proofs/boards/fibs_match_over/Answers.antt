@@ -1,7 +1,7 @@
 -- The line's board says whether the match is over.
 use Rattle.std.proofs.Common.{refl, ap, inl, inr, ◌∙◌}
-use Rattle.fibs_boards.specs.StoredBoard.{fields_of}
-use Rattle.fibs_records.specs.Texts.{flag_of}
+use Rattle.fibs_fields.specs.StoredBoard.{fields_of}
+use Rattle.fibs_c.specs.Records.Texts.{flag_of}
 use Rattle.fibs_c.proofs.boards.fibs_match_over.Goals as goal
 
 pub returns-in-Err : goal.returns-in-Err

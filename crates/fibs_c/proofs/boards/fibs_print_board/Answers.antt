@@ -1,6 +1,6 @@
 use Rattle.std.proofs.Common.{◌≤◌, ℕ, List, length, refl, sym, ap, inl, inr, subst, ◌∙◌}
-use Rattle.fibs_boards.specs.StoredBoard.{fields_of}
-use Rattle.fibs_records.specs.Texts.{HandsOut}
+use Rattle.fibs_fields.specs.StoredBoard.{fields_of}
+use Rattle.fibs_c.specs.Records.Texts.{HandsOut}
 use Rattle.fibs_c.proofs.boards.fibs_print_board.Goals as goal
 
 pub returns-in-Err : goal.returns-in-Err

@@ -5,7 +5,7 @@ use Rattle.fibs_session.specs.Calls.Standing.{ClientValue}
 use Rattle.fibs_position.specs.DecisionValue.{DecisionValue, decision_of}
 use Rattle.fibs_session.specs.History.Machine.{Click}
 use Rattle.fibs_session.specs.Calls.SessionOf.{handed}
-use Rattle.fibs_records.specs.Statuses.{refusal_status}
+use Rattle.fibs_c.specs.Records.Statuses.{refusal_status}
 use Rattle.fibs_c.specs.ClientDoor.{IsDecided}
 use Rattle.fibs_c.proofs.ClientLemmas.{put_back, on_wire, emptied, is_refused}
 use Rattle.fibs_c.proofs.client.fibs_client_decide.Goals as goal

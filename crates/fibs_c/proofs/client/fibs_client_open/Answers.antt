@@ -4,7 +4,7 @@ use Rattle.std.specs.Prelude.{Option}
 use Rattle.fibs_session.specs.Calls.Standing.{ClientValue}
 use Rattle.fibs_session.specs.History.Machine.{Open}
 use Rattle.fibs_session.specs.Calls.SessionOf.{handed}
-use Rattle.fibs_records.specs.Statuses.{refusal_status}
+use Rattle.fibs_c.specs.Records.Statuses.{refusal_status}
 use Rattle.fibs_c.specs.ClientDoor.{IsOpened}
 use Rattle.fibs_c.proofs.ClientLemmas.{put_back, on_wire, emptied, is_refused}
 use Rattle.fibs_c.proofs.client.fibs_client_open.Goals as goal

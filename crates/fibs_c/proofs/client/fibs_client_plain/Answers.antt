@@ -6,7 +6,7 @@ use Rattle.fibs_commands.specs.PlainCommands.{PlainValue}
 use Rattle.fibs_commands.specs.PlainOf.{plain_value}
 use Rattle.fibs_session.specs.History.Machine.{PlainInput}
 use Rattle.fibs_session.specs.Calls.SessionOf.{handed}
-use Rattle.fibs_records.specs.Statuses.{plain_status}
+use Rattle.fibs_c.specs.Records.Statuses.{plain_status}
 use Rattle.fibs_c.specs.ClientDoor.{IsPlainSent}
 use Rattle.fibs_c.proofs.ClientLemmas.{put_back, on_wire, emptied, is_plain_refused}
 use Rattle.fibs_c.proofs.client.fibs_client_plain.Goals as goal

@@ -1,11 +1,11 @@
 -- The board that is shown is told, if one is.
 use Rattle.std.proofs.Common.{sym, subst}
 use Rattle.std.specs.Prelude.{Option}
-use Rattle.fibs_boards.specs.Board.{BoardFields}
-use Rattle.fibs_boards.specs.StoredBoard.{fields_of}
+use Rattle.fibs_fields.specs.Board.{BoardFields}
+use Rattle.fibs_fields.specs.StoredBoard.{fields_of}
 use Rattle.fibs_session.specs.Calls.Standing.{ClientValue, StandsAfter}
-use Rattle.fibs_records.specs.BoardOf.{IsBoardAs}
-use Rattle.fibs_records.specs.declared.boards.BoardRecord.{BoardRecord}
+use Rattle.fibs_c.specs.Records.BoardOf.{IsBoardAs}
+use Rattle.fibs_c.specs.declared.records.boards.BoardRecord.{BoardRecord}
 use Rattle.fibs_c.specs.ClientDoor.{IsShown, IsShownBoard}
 use Rattle.fibs_c.proofs.client.fibs_client_shown.Goals.{in-None-shown, in-Some-shown}
 use Rattle.fibs_c.proofs.client.fibs_client_shown.Goals as goal

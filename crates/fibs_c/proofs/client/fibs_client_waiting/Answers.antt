@@ -4,8 +4,8 @@ use Rattle.std.specs.Prelude.{Option}
 use Rattle.fibs_session.specs.Calls.Standing.{ClientValue, StandsAfter}
 use Rattle.fibs_session.specs.Calls.SessionOf.{ask_of}
 use Rattle.fibs_session.specs.History.Words.{Ask}
-use Rattle.fibs_records.specs.Asks.{IsAskAs}
-use Rattle.fibs_records.specs.declared.outstanding.OutstandingRecord.{OutstandingRecord}
+use Rattle.fibs_c.specs.Records.Asks.{IsAskAs}
+use Rattle.fibs_c.specs.declared.records.outstanding.OutstandingRecord.{OutstandingRecord}
 use Rattle.fibs_c.specs.ClientDoor.{IsWaiting, IsWaitingAsk}
 use Rattle.fibs_c.proofs.client.fibs_client_waiting.Goals.{in-None-waiting, in-Some-waiting}
 use Rattle.fibs_c.proofs.client.fibs_client_waiting.Goals as goal

@@ -2,7 +2,7 @@
 use Rattle.std.proofs.Common.{rules, ◌≡◌, ℕ, length, take, refl, ap, subst, ◌∙◌}
 use Rattle.std.proofs.lemmas.List.{take_min}
 use Rattle.fibs_lines.specs.Lines.{kept_limit}
-use Rattle.fibs_records.specs.Decisions.{IsMaybeDecision}
+use Rattle.fibs_c.specs.Records.Decisions.{IsMaybeDecision}
 use Rattle.fibs_c.proofs.feeding.tell.Goals as goal
 
 pub returns-clause-tells : goal.returns-clause-tells

@@ -3,7 +3,7 @@ use Rattle.std.proofs.Common.{ap, ◌∙◌}
 use Rattle.std.specs.Prelude.{Option}
 use Rattle.fibs_session.specs.Calls.Standing.{ClientValue}
 use Rattle.fibs_session.specs.History.Machine.{Order}
-use Rattle.fibs_records.specs.Statuses.{refusal_status}
+use Rattle.fibs_c.specs.Records.Statuses.{refusal_status}
 use Rattle.fibs_c.specs.OrderDoor.{IsDone, order_refusal_now}
 use Rattle.fibs_c.proofs.ClientLemmas.{put_back, unsaid, is_silently_refused}
 use Rattle.fibs_c.proofs.ordering.fibs_client_order_roll.Goals as goal

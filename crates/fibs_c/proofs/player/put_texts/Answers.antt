@@ -1,6 +1,6 @@
 -- What follows all texts is as it was, since it was so behind each.
 use Rattle.std.proofs.Common.{arith, length, ap, ◌∙◌}
-use Rattle.fibs_directory.specs.Directory.View.{player_value}
+use Rattle.fibs_messages.specs.Directory.View.{player_value}
 use Rattle.fibs_c.specs.PlayerDoor.{texts_in}
 use Rattle.fibs_c.proofs.PlayerLemmas.{six_lengths}
 use Rattle.fibs_c.proofs.player.put_texts.Goals as goal

@@ -3,7 +3,7 @@ use Rattle.std.proofs.Common.{ap, subst, inr, ◌∙◌}
 use Rattle.std.specs.Prelude.{Option}
 use Rattle.fibs_position.specs.DecisionValue.{DecisionValue}
 use Rattle.fibs_position.specs.PositionValue.{position_value}
-use Rattle.fibs_records.specs.Statuses.{allowed_status}
+use Rattle.fibs_c.specs.Records.Statuses.{allowed_status}
 use Rattle.fibs_c.specs.PositionDoor.{IsAllowedTold}
 use Rattle.fibs_c.proofs.positions.fibs_allows.Goals as goal
 

@@ -1,6 +1,6 @@
 -- The command of the decision is handed out.
 use Rattle.std.proofs.Common.{rules, ℕ, List, subst, ◌∙◌}
-use Rattle.fibs_records.specs.Texts.{HandsOut}
+use Rattle.fibs_c.specs.Records.Texts.{HandsOut}
 use Rattle.fibs_c.proofs.positions.hand_out_command.Goals as goal
 
 pub returns : goal.returns

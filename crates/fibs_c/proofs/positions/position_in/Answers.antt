@@ -1,5 +1,5 @@
 use Rattle.std.proofs.Common.{refl, inl, inr}
-use Rattle.fibs_boards.specs.StoredBoard.{fields_of}
+use Rattle.fibs_fields.specs.StoredBoard.{fields_of}
 use Rattle.fibs_c.proofs.positions.position_in.Goals as goal
 
 pub returns-in-Err-clause-fault : goal.returns-in-Err-clause-fault

@@ -1,6 +1,6 @@
 use Rattle.std.proofs.Common.{◌≡◌, map, take, drop, length}
 use Rattle.fibs_rules.specs.PlayValue.{hops_of}
-use Rattle.fibs_records.specs.Decisions.{as_move, move_in}
+use Rattle.fibs_c.specs.Records.Decisions.{as_move, move_in}
 use Rattle.fibs_c.proofs.positions.put_plays.Given as goal
 
 abbrev pub invariant-loop-i : goal.invariant-loop-i

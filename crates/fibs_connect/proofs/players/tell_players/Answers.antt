@@ -1,6 +1,6 @@
 use Rattle.std.proofs.Common.{◌∷◌, [], option_map, ap, sym, subst, ◌∙◌}
-use Rattle.fibs_directory.specs.Directory.View.{player_value}
-use Rattle.fibs_front.specs.Told.{player_said}
+use Rattle.fibs_messages.specs.Directory.View.{player_value}
+use Rattle.fibs_connect.specs.Told.{player_said}
 use Rattle.fibs_connect.proofs.ConverseLemmas.PlayerLines.{listed, listed-more}
 use Rattle.fibs_connect.proofs.players.tell_players.Goals as goal
 

@@ -1,4 +1,4 @@
-use Rattle.fibs_boards.specs.StoredBoard.{fields_of}
+use Rattle.fibs_fields.specs.StoredBoard.{fields_of}
 use Rattle.fibs_engine.proofs.OkLemmas.{on_ok_weaker}
 use Rattle.fibs_json.specs.Boards.{board_members}
 use Rattle.fibs_json.proofs.ObjectLemmas.{next_members}

@@ -1,5 +1,5 @@
 use Rattle.std.proofs.Common.{◌++◌}
-use Rattle.fibs_boards.specs.StoredBoard.{fields_of}
+use Rattle.fibs_fields.specs.StoredBoard.{fields_of}
 use Rattle.fibs_engine.proofs.OkLemmas.{on_ok_weaker}
 use Rattle.fibs_json.specs.Boards.{match_members, turn_members, cube_members, off_members, count_members}
 use Rattle.fibs_json.proofs.ObjectLemmas.{next_members}

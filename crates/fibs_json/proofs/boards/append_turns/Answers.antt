@@ -1,6 +1,6 @@
 use Rattle.std.proofs.Common.{[], ◌∷◌, codes}
-use Rattle.fibs_boards.specs.Board.{field_of}
-use Rattle.fibs_boards.specs.StoredBoard.{fields_of}
+use Rattle.fibs_fields.specs.Board.{field_of}
+use Rattle.fibs_fields.specs.StoredBoard.{fields_of}
 use Rattle.fibs_engine.proofs.OkLemmas.{on_ok_weaker}
 use Rattle.fibs_position.specs.OwnView.{turn, colour}
 use Rattle.fibs_json.specs.Boards.{colour_json, dice_of, number_field, turn_json}

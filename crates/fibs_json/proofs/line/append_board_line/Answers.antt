@@ -1,6 +1,6 @@
 use Rattle.std.proofs.Common.{◌++◌, codes, refl}
 use Rattle.fibs_json.proofs.ObjectLemmas.{gained}
-use Rattle.fibs_boards.specs.StoredBoard.{fields_of}
+use Rattle.fibs_fields.specs.StoredBoard.{fields_of}
 use Rattle.fibs_json.specs.Boards.{board_members}
 use Rattle.fibs_json.specs.Lines.{line_object}
 use Rattle.fibs_json.proofs.line.append_board_line.Goals as goal

@@ -2,7 +2,7 @@ use Rattle.std.proofs.Common.{◌≡◌, ◌++◌, ◌∙◌, List, ℕ, ap, sym
 use Rattle.fibs_engine.proofs.OkLemmas.{on_ok_weaker}
 use Rattle.fibs_messages.specs.Message.{message_of}
 use Rattle.fibs_messages.specs.Line.{ReadingValue, numbered_line, board_line, malformed_line, reading_of}
-use Rattle.fibs_boards.specs.StoredBoard.{fields_of}
+use Rattle.fibs_fields.specs.StoredBoard.{fields_of}
 use Rattle.fibs_json.specs.Columns.{message_members}
 use Rattle.fibs_json.specs.Lines.{ReadObject, line_object, malformed_members}
 use Rattle.fibs_json.proofs.line.append_read.Goals as goal

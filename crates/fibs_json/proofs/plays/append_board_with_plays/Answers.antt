@@ -1,5 +1,5 @@
 use Rattle.std.proofs.Common.{◌≡◌, ◌++◌, ◌∙◌, ap, subst, refl, codes, map}
-use Rattle.fibs_boards.specs.StoredBoard.{fields_of}
+use Rattle.fibs_fields.specs.StoredBoard.{fields_of}
 use Rattle.fibs_position.specs.Phases.{InPhase}
 use Rattle.fibs_position.specs.PlaysOf.{PlaysIn}
 use Rattle.fibs_position.specs.PositionValue.{PositionValue, position_of, position_value}

@@ -1,5 +1,5 @@
 use Rattle.std.proofs.Common.{◌≡◌, ap, subst, refl, inl, inr}
-use Rattle.fibs_boards.specs.StoredBoard.{fields_of}
+use Rattle.fibs_fields.specs.StoredBoard.{fields_of}
 use Rattle.fibs_engine.proofs.OkLemmas.{if_ok_weaker}
 use Rattle.fibs_engine.specs.Status.{code_of}
 use Rattle.fibs_messages.specs.Line.{board_line}

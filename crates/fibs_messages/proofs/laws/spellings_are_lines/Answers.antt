@@ -1,5 +1,5 @@
 use Rattle.std.proofs.Common.{refl}
-use Rattle.fibs_boards.proofs.BoardLemmas.SpelledBoards.{spelling_printed, spelling_short}
+use Rattle.fibs_fields.proofs.BoardLemmas.SpelledBoards.{spelling_printed, spelling_short}
 use Rattle.fibs_messages.proofs.laws.spellings_are_lines.Goals as goal
 
 pub returns-clause-printed : goal.returns-clause-printed

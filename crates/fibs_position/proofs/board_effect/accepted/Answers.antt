@@ -2,9 +2,9 @@ use Rattle.std.proofs.Common.{arith, refl, ◌≡◌}
 use Rattle.std.specs.Prelude.{pos, neg_ℤ, ◌+ℤ◌, ◌-ℤ◌}
 use Rattle.std.specs.Int.{w32, cast_signed, cast_unsigned}
 use Rattle.std.proofs.lemmas.Int.{ints}
-use Rattle.fibs_boards.specs.StoredBoard.{fields_of}
+use Rattle.fibs_fields.specs.StoredBoard.{fields_of}
 use Rattle.fibs_position.specs.OwnView.{colour}
-use Rattle.fibs_boards.specs.Board.{field_values, field_of}
+use Rattle.fibs_fields.specs.Board.{field_values, field_of}
 use Rattle.fibs_position.proofs.BoardLemmas.SetFields.{may_cube, may_turn}
 use Rattle.fibs_position.proofs.board_effect.accepted.Goals as goal
 

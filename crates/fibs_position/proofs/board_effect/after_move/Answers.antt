@@ -2,8 +2,8 @@ use Rattle.std.proofs.Common.{arith, refl, ◌≡◌, ap, ◌∙◌}
 use Rattle.std.specs.Prelude.{pos, neg_ℤ, slice_index, ◌==◌, if◌then◌else◌}
 use Rattle.std.specs.Int.{w32, cast_signed, cast_unsigned}
 use Rattle.std.proofs.lemmas.Int.{ints}
-use Rattle.fibs_boards.specs.Board.{field_values}
-use Rattle.fibs_boards.specs.StoredBoard.{fields_of}
+use Rattle.fibs_fields.specs.Board.{field_values}
+use Rattle.fibs_fields.specs.StoredBoard.{fields_of}
 use Rattle.fibs_position.specs.OwnView.{colour}
 use Rattle.fibs_position.specs.BoardEffect.{placed}
 use Rattle.fibs_position.proofs.BoardLemmas.SetFields.{may_turn, may_off, set_last}

@@ -1,5 +1,5 @@
 use Rattle.std.proofs.Common.{sym, ap, ◌∙◌}
-use Rattle.fibs_boards.specs.StoredBoard.{fields_of}
+use Rattle.fibs_fields.specs.StoredBoard.{fields_of}
 use Rattle.fibs_rules.specs.PlayValue.{hops_of}
 use Rattle.fibs_position.specs.DecisionValue.{roll, double, accept, reject, move, resign, decision_of}
 use Rattle.fibs_position.specs.BoardEffect.{effect_of}

@@ -1,8 +1,8 @@
 use Rattle.std.proofs.Common.{◌≡◌, nat_eq, rules, of_z}
 use Rattle.std.specs.Prelude.{ℤ, FitsSigned}
 use Rattle.std.specs.Int.{w32}
-use Rattle.fibs_boards.specs.Board.{BoardFields, field_of}
-use Rattle.fibs_boards.specs.StoredBoard.{fields_of}
+use Rattle.fibs_fields.specs.Board.{BoardFields, field_of}
+use Rattle.fibs_fields.specs.StoredBoard.{fields_of}
 use Rattle.fibs_position.specs.BoardEffect.{is_doubled}
 use Rattle.fibs_position.proofs.board_effect.is_doubled.Goals as goal
 

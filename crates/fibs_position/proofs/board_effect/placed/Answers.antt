@@ -3,7 +3,7 @@ use Rattle.std.specs.Prelude.{ℤ, FitsSigned, map, slice_index}
 use Rattle.std.specs.List.{range_with_len}
 use Rattle.std.specs.Int.{w32, cast_signed, cast_unsigned}
 use Rattle.std.proofs.lemmas.Int.{ints, to_z-of_z}
-use Rattle.fibs_boards.specs.StoredBoard.{fields_of}
+use Rattle.fibs_fields.specs.StoredBoard.{fields_of}
 use Rattle.fibs_position.specs.OwnView.{colour}
 use Rattle.fibs_position.specs.BoardEffect.{set_fields, place_says, value_of}
 use Rattle.fibs_position.proofs.BoardLemmas.SetFields.{may_stand, set_more, places_are}

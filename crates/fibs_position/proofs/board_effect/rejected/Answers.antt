@@ -1,5 +1,5 @@
 use Rattle.std.proofs.Common.{refl}
-use Rattle.fibs_boards.specs.Board.{field_values}
+use Rattle.fibs_fields.specs.Board.{field_values}
 use Rattle.fibs_position.proofs.board_effect.rejected.Goals as goal
 
 pub set-board-requires : goal.set-board-requires

@@ -1,6 +1,6 @@
 use Rattle.std.proofs.Common.{arith, lit≤, refl}
 use Rattle.std.proofs.lemmas.Int.{ints}
-use Rattle.fibs_boards.specs.Board.{field_values}
+use Rattle.fibs_fields.specs.Board.{field_values}
 use Rattle.fibs_position.proofs.BoardLemmas.SetFields.{may_show}
 use Rattle.fibs_position.proofs.board_effect.rolled.Goals as goal
 

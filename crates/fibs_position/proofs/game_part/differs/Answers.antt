@@ -1,5 +1,5 @@
 use Rattle.std.proofs.Common.{ap, not}
-use Rattle.fibs_boards.specs.StoredBoard.{fields_of}
+use Rattle.fibs_fields.specs.StoredBoard.{fields_of}
 use Rattle.fibs_position.proofs.BoardLemmas.SameGameTest.{same_as_test}
 use Rattle.fibs_position.proofs.game_part.differs.Goals as goal
 

@@ -1,5 +1,5 @@
 use Rattle.std.proofs.Common.{rules, ◌≡◌}
-use Rattle.fibs_boards.specs.StoredBoard.{fields_of}
+use Rattle.fibs_fields.specs.StoredBoard.{fields_of}
 use Rattle.fibs_position.proofs.BoardLemmas.GamePartGroups.{same_from_groups, groups_from_same}
 use Rattle.fibs_position.proofs.game_part.is_same_game.Goals as goal
 

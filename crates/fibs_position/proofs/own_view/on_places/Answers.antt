@@ -5,7 +5,7 @@ use Rattle.std.specs.Int.{w32, cast_signed, cast_unsigned}
 use Rattle.std.proofs.lemmas.Int.{to_z-of_z}
 use Rattle.std.proofs.Math.ListN.{length-set}
 use Rattle.std.proofs.lemmas.List.Edits.{fill_by_more}
-use Rattle.fibs_boards.specs.StoredBoard.{fields_of}
+use Rattle.fibs_fields.specs.StoredBoard.{fields_of}
 use Rattle.fibs_position.specs.OwnView.{stand_on, places}
 use Rattle.fibs_position.proofs.BoardLemmas.NumberRanges.{filled_from}
 use Rattle.fibs_position.proofs.own_view.on_places.Goals as goal

@@ -1,7 +1,7 @@
 use Rattle.std.proofs.Common.{◌≡◌, ◌+◌, ◌∙◌, ap, arith, length, take, codes}
 use Rattle.fibs_model.specs.Crossings.{crossings}
 use Rattle.fibs_model.specs.EventOf.{event_of}
-use Rattle.fibs_scripts.specs.Output.{script_login}
+use Rattle.fibs_replay.specs.Output.{script_login}
 use Rattle.fibs_replay.proofs.ReplayLemmas.Carrying.{front_is, given_none, given_more, given_still}
 use Rattle.fibs_replay.proofs.ReplayLemmas.Runs.{run_begins, run_begins_none, run_more, run_more_one}
 use Rattle.fibs_replay.proofs.ReplayLemmas.Runs.{run_stops, run_ends, rest_readable}

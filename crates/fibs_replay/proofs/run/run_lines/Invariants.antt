@@ -1,10 +1,10 @@
 use Rattle.std.proofs.Common.{◌≡◌, ◌+◌, List, [], length, take}
-use Rattle.fibs_boards.specs.Board.{BoardFields}
+use Rattle.fibs_fields.specs.Board.{BoardFields}
 use Rattle.fibs_model.specs.Crossings.{crossings}
 use Rattle.fibs_model.specs.Events.{Event}
-use Rattle.fibs_scripts.specs.Output.{script_login}
+use Rattle.fibs_replay.specs.Output.{script_login}
 use Rattle.fibs_replay.specs.Running.{StandsFrom}
-use Rattle.fibs_scripts.specs.Scripts.{SayEvents}
+use Rattle.fibs_replay.specs.Scripts.{SayEvents}
 use Rattle.fibs_replay.proofs.ReplayLemmas.Runs.{Readable, Running}
 use Rattle.fibs_replay.proofs.run.run_lines.Given as goal
 

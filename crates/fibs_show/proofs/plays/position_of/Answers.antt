@@ -1,7 +1,7 @@
 use Rattle.std.proofs.Common.{◌≡◌, refl, ◌++◌, ◌∷◌, [], ap, sym, subst, ◌∙◌}
 use Rattle.std.specs.Prelude.{codes}
 use Rattle.fibs_messages.specs.Line.{board_line}
-use Rattle.fibs_boards.specs.StoredBoard.{fields_of}
+use Rattle.fibs_fields.specs.StoredBoard.{fields_of}
 use Rattle.fibs_position.specs.PositionValue.{position_of}
 use Rattle.fibs_show.proofs.PlaysLemmas.{good_not_refused}
 use Rattle.fibs_position.specs.Names.{position_fault_name}

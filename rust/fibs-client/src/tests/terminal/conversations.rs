@@ -2,7 +2,7 @@
 
 use super::lines::{MOVED, POINT_MADE, SETTINGS, TO_MOVE, TO_ROLL, WELCOME, to_roll_picture};
 use super::seats::{Scene, Step, assert_has, assert_scenes, assert_shows, colour_settings, plain_settings, shown};
-use crate::fibs_environment::Settings;
+use crate::fibs_wording::environment::Settings;
 
 /// What a turn shows after the first messages: one picture, and a row for each other thing.
 const TURN: &str = concat!(

@@ -1,8 +1,8 @@
 //! What a terminal was told is shown before it waits.
 
 use super::seats::{Stopped, plain_settings};
-use crate::fibs_front::front::Front;
-use crate::fibs_front::words::Words;
+use crate::fibs_connect::front::Front;
+use crate::fibs_connect::words::Words;
 use crate::fibs_session::{Client, Directory, Login};
 use crate::fibs_terminal::Terminal;
 use crate::rattle::cell::Cell;

@@ -1,7 +1,7 @@
 //! Messages, and their words.
 
 use super::seats::{Step, assert_shows, plain_settings};
-use crate::fibs_environment::Settings;
+use crate::fibs_wording::environment::Settings;
 
 /// A line of the server, and what is shown of it.
 static LINES: [(&[u8], &str); 16] = [

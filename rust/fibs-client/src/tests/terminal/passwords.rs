@@ -1,7 +1,7 @@
 //! The first line of what holds a password.
 
 use super::seats::assert_of;
-use crate::fibs_watch::first_line;
+use crate::fibs_connect::waiting::first_line;
 
 /// What is read, its first line, and what is left of it.
 static ROWS: [(&[u8], &[u8], &[u8]); 5] = [

@@ -1,7 +1,7 @@
 //! Boards of both colours and directions, and their pictures, which were drawn by hand; and what the last line of a
 //! picture says can be done.
 
-use crate::fibs_boards::Board;
+use crate::fibs_fields::boards::Board;
 use crate::fibs_picture::{MOST_SEEN, draw, place_at};
 use crate::fibs_position::GameBoard;
 use crate::rattle::alloc::AllocError;

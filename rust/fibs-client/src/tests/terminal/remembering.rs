@@ -2,7 +2,7 @@
 
 use super::lines::{FIRST_BOARD, MOVED, POINT_MADE, TO_MOVE, TO_ROLL, WELCOME, to_roll_picture};
 use super::seats::{Scene, Step, assert_scenes, assert_wanted, colour_settings, plain_settings, shown};
-use crate::fibs_environment::Settings;
+use crate::fibs_wording::environment::Settings;
 
 /// The first board against another opponent.
 const WITH_CAROL: &[u8] =

@@ -1,6 +1,6 @@
 //! Rows that are broken or cut: by the columns that their letters take, and between letters.
 
-use crate::fibs_environment::broken::{break_at_spaces, front_of};
+use crate::fibs_wording::environment::broken::{break_at_spaces, front_of};
 
 /// Texts, the columns that they may take, and the rows that are made of them.
 static BROKEN: [(&str, usize, &str); 4] = [

@@ -1,18 +1,18 @@
 //! A client and a terminal, to which a server's lines and typed lines are given.
 
 use super::lines::FIRST_BOARD;
-use crate::fibs_environment::{Settings, Zone};
-use crate::fibs_front::fault::FrontFault;
-use crate::fibs_front::front::Front;
-use crate::fibs_front::said::Said;
-use crate::fibs_front::typed_line::TypedLine;
-use crate::fibs_front::wish::Wish;
-use crate::fibs_front::words::Words;
+use crate::fibs_wording::environment::{Settings, Zone};
+use crate::fibs_connect::fault::FrontFault;
+use crate::fibs_connect::front::Front;
+use crate::fibs_connect::said::Said;
+use crate::fibs_connect::typed_line::TypedLine;
+use crate::fibs_connect::wish::Wish;
+use crate::fibs_connect::words::Words;
 use crate::fibs_messages::Reading;
 use crate::fibs_position::GameBoard;
 use crate::fibs_session::{Client, Directory, Login, Taken};
 use crate::fibs_terminal::Terminal;
-use crate::fibs_typed::typing::{Typed, read_typed};
+use crate::fibs_session::typed::typing::{Typed, read_typed};
 use crate::rattle::io;
 use crate::rattle::io::{ErrorKind, Write};
 use crate::rattle::time::{Clock, Duration};

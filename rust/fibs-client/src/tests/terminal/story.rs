@@ -1,8 +1,8 @@
 //! The game so far: each play of a game is told by the boards before and after it.
 
-use crate::fibs_boards::Board;
+use crate::fibs_fields::boards::Board;
 use crate::fibs_position::{Decision, GameBoard, Play, effect};
-use crate::fibs_story::{Story, mirrored, played};
+use crate::fibs_terminal::story::{Story, mirrored, played};
 
 /// The board with which a game begins, without dice.
 const FIRST: &[u8] = b"board:You:bob:3:0:0:0:-2:0:0:0:0:5:0:3:0:0:0:-5:5:0:0:0:-3:0:-5:0:0:0:0:2:0:1:0:0:0:0:1:1:1:0:1:-1:0:25:0:0:0:0:0:0:0:0";

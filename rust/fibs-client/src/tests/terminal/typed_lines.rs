@@ -1,9 +1,9 @@
 //! What comes while a user types, if the server speaks.
 
 use super::seats::assert_of;
-use crate::fibs_front::typed_line::TypedLine;
-use crate::fibs_front::typed_lines::{Next, TypedLines};
-use crate::fibs_front::watch::{First, Unwatched, Watch};
+use crate::fibs_connect::typed_line::TypedLine;
+use crate::fibs_connect::typed_lines::{Next, TypedLines};
+use crate::fibs_connect::watch::{First, Unwatched, Watch};
 use crate::fibs_test_tools::pipe::{After, Pipe};
 use arrayvec::ArrayVec;
 

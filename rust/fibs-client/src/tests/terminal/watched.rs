@@ -1,9 +1,9 @@
 //! Boards that the user watches: their pictures, and the same in words, which were made by hand.
 
-use crate::fibs_boards::Board;
+use crate::fibs_fields::boards::Board;
 use crate::fibs_picture::draw_watched;
 use crate::fibs_position::{GameBoard, PositionFault, WatchedBoard};
-use crate::fibs_words::tell_watched;
+use crate::fibs_picture::in_words::tell_watched;
 
 /// A board, the lines of its picture, and its rows in words.
 struct Watched {

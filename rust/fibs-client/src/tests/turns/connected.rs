@@ -1,7 +1,7 @@
 //! A client at its connection, for the tests of turns.
 
 use crate::fibs_engine::link::Link;
-use crate::fibs_exchange::{Ending, ExchangeFault, exchange};
+use crate::fibs_connect::turns::{Ending, ExchangeFault, exchange};
 use crate::fibs_session::{Client, Directory, Login};
 use crate::fibs_test_tools::pipe::{After, Pipe, QUIET};
 use crate::fibs_test_tools::text::{TEXT_ROOM, Text, joined};

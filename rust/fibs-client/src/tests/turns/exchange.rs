@@ -4,7 +4,7 @@ use super::connected::{
     Kind, Seat, Step, Talk, Turn, assert_at, assert_talk, assert_talks, assert_typed, first_turn_on, is_made_of,
     repeated,
 };
-use crate::fibs_exchange::{Ending, exchange};
+use crate::fibs_connect::turns::{Ending, exchange};
 use crate::fibs_messages::{Reading, read as read_line};
 use crate::fibs_session::{Client, Directory, Login};
 use crate::fibs_test_tools::devices::FailsOnce;

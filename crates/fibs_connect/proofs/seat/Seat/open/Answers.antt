@@ -1,5 +1,5 @@
 use Rattle.std.proofs.Common.{◌∷◌, [], refl, inr}
-use Rattle.fibs_front.specs.Told.{opened_said, no_connection_said}
+use Rattle.fibs_connect.specs.Told.{opened_said, no_connection_said}
 use Rattle.fibs_engine.proofs.OkLemmas.{on_ok_weaker}
 use Rattle.fibs_connect.proofs.ConverseLemmas.Seats.{on_ok_three, seat_connects, loses_since}
 use Rattle.fibs_connect.proofs.seat.Seat.open.Goals as goal

@@ -1,5 +1,5 @@
 use Rattle.std.proofs.Common.{false, true, sym, ◌∙◌}
-use Rattle.fibs_exchange.proofs.TurnLemmas.Turns.{next_fits}
+use Rattle.fibs_connect.proofs.TurnLemmas.Turns.{next_fits}
 use Rattle.fibs_connect.proofs.ConverseLemmas.Seats.{seat_away, turn_away, turn_given_up, turn_kept}
 use Rattle.fibs_connect.proofs.seat.Seat.take_turn.Goals as goal
 

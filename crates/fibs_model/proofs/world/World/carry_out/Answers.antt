@@ -1,6 +1,6 @@
 use Rattle.std.proofs.Common.{sym, subst, refl, ◌∙◌}
 use Rattle.fibs_commands.specs.Logins.{login_text}
-use Rattle.fibs_model_server.specs.EventOf.{event_of}
+use Rattle.fibs_model.specs.EventOf.{event_of}
 use Rattle.fibs_model.specs.WorldCalls.{machine_after}
 use Rattle.fibs_model.proofs.Likeness.Stepping.{tells, told, stands_for, stands_more, stands_still}
 use Rattle.fibs_model.proofs.Likeness.Crossing.{crossings_seen}

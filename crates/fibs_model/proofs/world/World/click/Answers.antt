@@ -1,8 +1,8 @@
 use Rattle.std.proofs.Common.{refl, ap, ◌∙◌, arith}
 use Rattle.std.specs.Prelude.{option_map}
-use Rattle.fibs_boards.specs.StoredBoard.{fields_of}
+use Rattle.fibs_fields.specs.StoredBoard.{fields_of}
 use Rattle.fibs_position.specs.DecisionValue.{decision_of}
-use Rattle.fibs_machine.specs.Events.{Click}
+use Rattle.fibs_model.specs.Events.{Click}
 use Rattle.fibs_model.specs.WorldOf.{world_of}
 use Rattle.fibs_model.proofs.Likeness.Events.{kept_on, goes_seen}
 use Rattle.fibs_model.proofs.Likeness.Asking.{clicked_stands, asked_after, noted_after}

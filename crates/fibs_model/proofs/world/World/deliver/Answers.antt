@@ -1,6 +1,6 @@
 use Rattle.std.proofs.Common.{map, refl, ap, arith}
-use Rattle.fibs_model_server.specs.EntryOf.{entry_of}
-use Rattle.fibs_machine.specs.Events.{Deliver}
+use Rattle.fibs_model.specs.EntryOf.{entry_of}
+use Rattle.fibs_model.specs.Events.{Deliver}
 use Rattle.fibs_model.specs.WorldOf.{world_of}
 use Rattle.fibs_model.proofs.Likeness.Events.{kept_on, goes_seen, may_seen}
 use Rattle.fibs_model.proofs.Likeness.Delivering.{heard_stands, heard_after}

@@ -1,7 +1,7 @@
 use Rattle.std.proofs.Common.{List, length, map, ap, sym, subst, ◌∙◌}
-use Rattle.fibs_history.specs.Log.{Entry}
-use Rattle.fibs_machine.specs.Headline.{AllAtMost}
-use Rattle.fibs_model_server.specs.EntryOf.{entry_of}
+use Rattle.fibs_session.specs.History.Log.{Entry}
+use Rattle.fibs_model.specs.Headline.{AllAtMost}
+use Rattle.fibs_model.specs.EntryOf.{entry_of}
 use Rattle.fibs_model.specs.WorldOf.{WorldValue}
 use Rattle.fibs_model.proofs.Likeness.Running.{headline_of, log_of}
 use Rattle.fibs_model.proofs.world.World.log.Goals as goal

@@ -1,10 +1,10 @@
 use Rattle.std.proofs.Common.{map, refl, ap, arith}
 use Rattle.std.specs.Prelude.{is_ok}
-use Rattle.fibs_boards.specs.StoredBoard.{fields_of}
+use Rattle.fibs_fields.specs.StoredBoard.{fields_of}
 use Rattle.fibs_commands.specs.LoginOf.{login_of, name_of, password_of}
-use Rattle.fibs_model_server.specs.EntryOf.{entry_of}
+use Rattle.fibs_model.specs.EntryOf.{entry_of}
 use Rattle.fibs_model.specs.LinksOf.{link_of}
-use Rattle.fibs_machine.specs.World.{start}
+use Rattle.fibs_model.specs.World.{start}
 use Rattle.fibs_model.proofs.Likeness.Beginning.{new_stands, new_after, refused}
 use Rattle.fibs_model.proofs.world.World.new.Goals as goal
 

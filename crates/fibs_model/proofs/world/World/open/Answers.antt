@@ -2,11 +2,11 @@ use Rattle.std.proofs.Common.{◌≡◌, ◌+◌, ◌++◌, ◌∷◌, [], map, 
 use Rattle.std.proofs.lemmas.List.{length-map}
 use Rattle.fibs_session.specs.Calls.Doing.{Does}
 use Rattle.fibs_session.specs.Calls.SessionOf.{handed}
-use Rattle.fibs_history.specs.Log.{Opened}
-use Rattle.fibs_history.specs.Machine as M
-use Rattle.fibs_history.specs.Machine.{on_wire}
-use Rattle.fibs_model_server.specs.EntryOf.{entry_of}
-use Rattle.fibs_machine.specs.Events.{Open}
+use Rattle.fibs_session.specs.History.Log.{Opened}
+use Rattle.fibs_session.specs.History.Machine as M
+use Rattle.fibs_session.specs.History.Machine.{on_wire}
+use Rattle.fibs_model.specs.EntryOf.{entry_of}
+use Rattle.fibs_model.specs.Events.{Open}
 use Rattle.fibs_model.specs.LinksOf.{link_of}
 use Rattle.fibs_model.specs.WorldOf.{world_of}
 use Rattle.fibs_model.proofs.Likeness.Events.{kept_on, goes_seen, may_seen, logged}

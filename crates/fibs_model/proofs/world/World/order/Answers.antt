@@ -1,6 +1,6 @@
 use Rattle.std.proofs.Common.{◌++◌, map, refl, ap, ◌∙◌, arith}
-use Rattle.fibs_model_server.specs.EntryOf.{entry_of}
-use Rattle.fibs_machine.specs.Events.{Order}
+use Rattle.fibs_model.specs.EntryOf.{entry_of}
+use Rattle.fibs_model.specs.Events.{Order}
 use Rattle.fibs_model.specs.WorldOf.{world_of}
 use Rattle.fibs_model.proofs.Likeness.Asking.{ordered_stands, noted_after}
 use Rattle.fibs_model.proofs.Likeness.Events.{kept_on, goes_seen}

@@ -1,7 +1,7 @@
 use Rattle.std.proofs.Common.{refl, ap, ◌∙◌, arith}
-use Rattle.fibs_boards.specs.StoredBoard.{fields_of}
-use Rattle.fibs_machine.specs.Server.{ServerValue}
-use Rattle.fibs_machine.specs.Events.{Own}
+use Rattle.fibs_fields.specs.StoredBoard.{fields_of}
+use Rattle.fibs_model.specs.Server.{ServerValue}
+use Rattle.fibs_model.specs.Events.{Own}
 use Rattle.fibs_model.specs.WorldOf.{world_of}
 use Rattle.fibs_model.proofs.Likeness.Events.{kept_on, goes_seen, may_seen}
 use Rattle.fibs_model.proofs.Likeness.Sending.{own_stands, own_is_ok, of_ok, sent_after}

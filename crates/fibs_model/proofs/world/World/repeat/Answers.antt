@@ -1,6 +1,6 @@
 use Rattle.std.proofs.Common.{refl, ap, ◌∙◌, arith}
-use Rattle.fibs_boards.specs.Board.{spelling}
-use Rattle.fibs_machine.specs.Events.{Repeat}
+use Rattle.fibs_fields.specs.Board.{spelling}
+use Rattle.fibs_model.specs.Events.{Repeat}
 use Rattle.fibs_model.specs.WorldOf.{world_of}
 use Rattle.fibs_model.proofs.Likeness.Events.{kept_on, goes_seen}
 use Rattle.fibs_model.proofs.Likeness.Sending.{repeat_stands, sent_after}

@@ -1,6 +1,6 @@
 use Rattle.fibs_commands.specs.Logins.{login_text}
 use Rattle.std.proofs.Common.{◌≡◌, ◌+◌, ◌<◌, ◌++◌, get_or, map, take, length, sym, ap, subst, ◌∙◌, arith}
-use Rattle.fibs_model_server.specs.EventOf.{event_of}
+use Rattle.fibs_model.specs.EventOf.{event_of}
 use Rattle.fibs_model.specs.WorldCalls.{machine_after}
 use Rattle.fibs_model.specs.WorldOf.{WorldValue}
 use Rattle.fibs_model.proofs.Likeness.Running.{headline_of, log_of, done_more, left_more, stands_next, stops}

@@ -1,7 +1,7 @@
 use Rattle.std.proofs.Common.{◌≡◌, ℕ, List, ◌++◌, map, take}
-use Rattle.fibs_boards.specs.Board.{BoardFields}
-use Rattle.fibs_model_server.specs.EventOf.{event_of}
-use Rattle.fibs_machine.specs.Events.{Event}
+use Rattle.fibs_fields.specs.Board.{BoardFields}
+use Rattle.fibs_model.specs.EventOf.{event_of}
+use Rattle.fibs_model.specs.Events.{Event}
 use Rattle.fibs_model.specs.WorldCalls.{WorldStandsAfter}
 use Rattle.fibs_model.proofs.world.World.run.Given as goal
 

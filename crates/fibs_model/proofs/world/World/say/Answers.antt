@@ -1,6 +1,6 @@
 use Rattle.std.proofs.Common.{refl, arith}
 use Rattle.fibs_commands.specs.PlainOf.{plain_value}
-use Rattle.fibs_machine.specs.Events.{Plain}
+use Rattle.fibs_model.specs.Events.{Plain}
 use Rattle.fibs_model.specs.WorldOf.{world_of}
 use Rattle.fibs_model.proofs.Likeness.Events.{kept_on, goes_seen}
 use Rattle.fibs_model.proofs.Likeness.Asking.{said_stands, asked_after}

@@ -1,6 +1,6 @@
 use Rattle.std.proofs.Common.{slice_index, refl, arith}
 use Rattle.std.proofs.lemmas.List.{length-map}
-use Rattle.fibs_machine.specs.Events.{Serve}
+use Rattle.fibs_model.specs.Events.{Serve}
 use Rattle.fibs_model.specs.LinksOf.{link_of}
 use Rattle.fibs_model.specs.WorldOf.{world_of}
 use Rattle.fibs_model.proofs.Likeness.Events.{kept_on, goes_seen, may_seen}

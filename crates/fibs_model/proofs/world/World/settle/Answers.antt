@@ -1,8 +1,8 @@
 use Rattle.std.proofs.Common.{◌≡◌, ◌≤◌, ◌+◌, ◌++◌, Some, None, sym, ap, subst, ◌∙◌, arith, slice_index, option_map}
 use Rattle.std.proofs.Common.{length}
 use Rattle.fibs_commands.specs.Logins.{login_text}
-use Rattle.fibs_machine.specs.CanRest.{asked_now, next_to_rest}
-use Rattle.fibs_model_server.specs.EventOf.{event_of}
+use Rattle.fibs_model.specs.CanRest.{asked_now, next_to_rest}
+use Rattle.fibs_model.specs.EventOf.{event_of}
 use Rattle.fibs_model.specs.Settling.{Settled, settle_refusal}
 use Rattle.fibs_model.specs.WorldCalls.{machine_after}
 use Rattle.fibs_model.specs.WorldOf.{WorldValue}

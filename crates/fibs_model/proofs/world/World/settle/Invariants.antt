@@ -1,6 +1,6 @@
 use Rattle.std.proofs.Common.{ℕ, List, slice_index}
-use Rattle.fibs_boards.specs.Board.{BoardFields}
-use Rattle.fibs_machine.specs.Events.{Event}
+use Rattle.fibs_fields.specs.Board.{BoardFields}
+use Rattle.fibs_model.specs.Events.{Event}
 use Rattle.fibs_model.specs.WorldCalls.{WorldStandsAfter}
 use Rattle.fibs_model.proofs.Likeness.Settling.{OnItsWay}
 use Rattle.fibs_model.proofs.world.World.settle.Given as goal

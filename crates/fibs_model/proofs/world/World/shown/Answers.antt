@@ -1,7 +1,7 @@
 use Rattle.std.proofs.Common.{sym, subst}
 use Rattle.fibs_session.specs.Calls.Standing.{StandsAfter}
 use Rattle.fibs_commands.specs.Logins.{login_text}
-use Rattle.fibs_machine.specs.World.{talk_of}
+use Rattle.fibs_model.specs.World.{talk_of}
 use Rattle.fibs_model.specs.WorldCalls.{machine_after}
 use Rattle.fibs_model.specs.WorldOf.{WorldValue}
 use Rattle.fibs_model.proofs.Likeness.Stepping.{stands_for}

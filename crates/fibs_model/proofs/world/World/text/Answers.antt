@@ -1,5 +1,5 @@
 use Rattle.std.proofs.Common.{refl, arith}
-use Rattle.fibs_machine.specs.Events.{Text}
+use Rattle.fibs_model.specs.Events.{Text}
 use Rattle.fibs_model.specs.WorldOf.{world_of}
 use Rattle.fibs_model.proofs.Likeness.Events.{kept_on, goes_seen, may_seen}
 use Rattle.fibs_model.proofs.Likeness.Sending.{text_stands, sent_after}

@@ -1,7 +1,7 @@
 use Rattle.std.proofs.Common.{◌∷◌, [], take, sym, ap, subst, ◌∙◌}
-use Rattle.fibs_carrier.specs.Carrying.{crossed, closed}
+use Rattle.fibs_model.specs.Carrying.{crossed, closed}
 use Rattle.fibs_model.specs.declared.world.link.Link.{Link}
-use Rattle.fibs_carrier.specs.declared.carrier.Way.TheVariants.{ToServer}
+use Rattle.fibs_model.specs.declared.carriers.carrier.Way.TheVariants.{ToServer}
 use Rattle.fibs_model.proofs.Likeness.Crossing.{carried_both, kept_cross}
 use Rattle.fibs_model.proofs.world.crossing.hang_up.Goals as goal
 

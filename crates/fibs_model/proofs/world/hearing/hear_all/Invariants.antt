@@ -1,5 +1,5 @@
 use Rattle.std.proofs.Common.{◌≡◌, ℕ, List, ◌++◌, length, map, vec_len, vec_capacity}
-use Rattle.fibs_model_server.specs.EntryOf.{entry_of}
+use Rattle.fibs_model.specs.EntryOf.{entry_of}
 use Rattle.fibs_model.specs.HearingOf.{HearsPiece, RoomForPiece}
 use Rattle.fibs_model.proofs.world.hearing.hear_all.Given as goal
 

@@ -1,7 +1,7 @@
 use Rattle.std.proofs.Common.{◌≤◌, ◌+◌, ◌++◌, length, ap, ◌∙◌, refl, sym, subst}
 use Rattle.std.specs.Prelude.{option_map}
 use Rattle.fibs_session.specs.Calls.SessionOf.{taken_of, texts_of}
-use Rattle.fibs_history.specs.Machine.{wire_of}
+use Rattle.fibs_session.specs.History.Machine.{wire_of}
 use Rattle.fibs_model.proofs.Likeness.Hearing.{front, hears_none, hears_some, none_of, line_room, line_put}
 use Rattle.fibs_model.proofs.Likeness.Hearing.{some_left, none_left}
 use Rattle.fibs_model.proofs.world.hearing.hear_line.Goals as goal

@@ -1,6 +1,6 @@
 use Rattle.std.proofs.Common.{◌≡◌, ◌++◌, length, map, ap, ◌∙◌, sym, arith}
 use Rattle.fibs_messages.specs.Line.{reading_of}
-use Rattle.fibs_model_server.specs.EntryOf.{entry_of, entries_of, roll_entries}
+use Rattle.fibs_model.specs.EntryOf.{entry_of, entries_of, roll_entries}
 use Rattle.fibs_model.proofs.Likeness.Hearing.{many_given, many_first, rolled_noted, first_noted}
 use Rattle.fibs_model.proofs.world.hearing.note_line.Goals as goal
 

@@ -1,5 +1,5 @@
 use Rattle.std.proofs.Common.{◌≡◌, ◌≤◌, ◌+◌, ◌++◌, length, drop}
-use Rattle.fibs_history.specs.Machine.{wire_of}
+use Rattle.fibs_session.specs.History.Machine.{wire_of}
 use Rattle.fibs_session.specs.Calls.SessionOf.{texts_of}
 use Rattle.fibs_model.proofs.world.hearing.put_all.Given as goal
 

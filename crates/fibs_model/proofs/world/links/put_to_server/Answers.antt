@@ -1,5 +1,5 @@
 use Rattle.std.proofs.Common.{refl, arith}
-use Rattle.fibs_history.specs.Machine.{on_wire}
+use Rattle.fibs_session.specs.History.Machine.{on_wire}
 use Rattle.fibs_model.proofs.Likeness.Links.{asked_seen}
 use Rattle.fibs_model.proofs.world.links.put_to_server.Goals as goal
 

@@ -1,5 +1,5 @@
 use Rattle.std.proofs.Common.{sym}
-use Rattle.fibs_boards.specs.StoredBoard.{fields_of}
+use Rattle.fibs_fields.specs.StoredBoard.{fields_of}
 use Rattle.fibs_position.proofs.BoardLemmas.GoodTest.{good_fails}
 use Rattle.fibs_position.proofs.BoardLemmas.SeenBoards.{good-if-few, test-if-few, fault-if-yours}
 use Rattle.fibs_position.proofs.position.Position.of.Goals as goal

@@ -1,6 +1,6 @@
 use Rattle.std.proofs.Common.{refl, sym}
 use Rattle.std.proofs.lemmas.Bool.{false≢true}
-use Rattle.fibs_boards.specs.StoredBoard.{fields_of}
+use Rattle.fibs_fields.specs.StoredBoard.{fields_of}
 use Rattle.fibs_position.proofs.BoardLemmas.SeenBoards.{watched-if-few, unwatched-if-many, unwatched-if-yours}
 use Rattle.fibs_position.proofs.watched_board.WatchedBoard.of.Goals as goal
 

@@ -1,6 +1,6 @@
 use Rattle.std.proofs.Common.{refl}
 use Rattle.fibs_position.specs.DecisionValue.{decision_of}
-use Rattle.fibs_history.specs.Machine.{Click}
+use Rattle.fibs_session.specs.History.Machine.{Click}
 use Rattle.fibs_session.proofs.Calls.ClientLaws.{same_client, session_at, client_does, click_keeps}
 use Rattle.fibs_session.proofs.client.Client.decide.Goals as goal
 

@@ -32,7 +32,7 @@ use types.Kit.{fsplit, fsplit3, fjoin, feq_i, pick, await, suffices, group}
 use types.Logic.{lfts}
 use types.Run.{enter, addr, stop, no_more, and_then, returns}
 use types.Tokens.{lft_new, lft_end, name_done}
-use Rattle.fibs_history.specs.Machine.{Piece}
+use Rattle.fibs_session.specs.History.Machine.{Piece}
 use Rattle.fibs_session.specs.Calls.Doing.{Does}
 use Rattle.fibs_session.specs.Calls.Feeding.{ReadsPiece, Shows, Keeps, FeedAnswers, commands_of}
 use Rattle.fibs_session.specs.Calls.SessionOf.{taken_of}

@@ -1,5 +1,5 @@
 use Rattle.std.proofs.Common.{refl}
-use Rattle.fibs_history.specs.Machine.{Lose}
+use Rattle.fibs_session.specs.History.Machine.{Lose}
 use Rattle.fibs_session.proofs.Calls.ClientLaws.{session_at, client_does, lose_keeps}
 use Rattle.fibs_session.proofs.client.Client.lose.Goals as goal
 

@@ -1,5 +1,5 @@
 use Rattle.std.proofs.Common.{refl}
-use Rattle.fibs_history.specs.Machine.{Order}
+use Rattle.fibs_session.specs.History.Machine.{Order}
 use Rattle.fibs_session.proofs.Calls.ClientLaws.{same_client, session_at, client_does, order_keeps}
 use Rattle.fibs_session.proofs.client.Client.order_roll.Goals as goal
 

@@ -1,5 +1,5 @@
 use Rattle.std.proofs.Common.{refl}
-use Rattle.fibs_history.specs.Machine.{PlainInput}
+use Rattle.fibs_session.specs.History.Machine.{PlainInput}
 use Rattle.fibs_commands.specs.PlainOf.{plain_value}
 use Rattle.fibs_session.proofs.Calls.ClientLaws.{same_client, session_at, client_does, plain_keeps}
 use Rattle.fibs_session.proofs.client.Client.plain.Goals as goal

@@ -1,5 +1,5 @@
 use Rattle.std.proofs.Common.{◌≡◌, ◌++◌, drop}
-use Rattle.fibs_history.specs.Machine.{wire_of}
+use Rattle.fibs_session.specs.History.Machine.{wire_of}
 use Rattle.fibs_session.specs.Calls.SessionOf.{texts_of}
 use Rattle.fibs_session.proofs.client.run.append_all.Given as goal
 

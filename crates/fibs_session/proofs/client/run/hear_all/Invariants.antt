@@ -1,5 +1,5 @@
 use Rattle.std.proofs.Common.{◌≡◌, ℕ, List, ◌++◌, length}
-use Rattle.fibs_history.specs.Machine.{Piece}
+use Rattle.fibs_session.specs.History.Machine.{Piece}
 use Rattle.fibs_session.specs.Calls.Writing.{Writes}
 use Rattle.fibs_session.proofs.client.run.hear_all.Given as goal
 

@@ -1,5 +1,5 @@
 use Rattle.std.proofs.Common.{drop, map}
-use Rattle.fibs_history.specs.Machine.{Out}
+use Rattle.fibs_session.specs.History.Machine.{Out}
 use Rattle.fibs_commands.specs.LoginOf.{login_of}
 use Rattle.fibs_session.specs.Calls.InputOf.{input_of}
 use Rattle.fibs_session.proofs.Calls.Runs.{Going}

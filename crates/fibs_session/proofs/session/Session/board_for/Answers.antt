@@ -1,14 +1,14 @@
 use Rattle.std.proofs.Common.{◌≡◌, true, false, Option, None, Some, is_some, option_map, refl, sym, ◌∙◌, ap}
-use Rattle.fibs_boards.specs.Board.{BoardFields}
+use Rattle.fibs_fields.specs.Board.{BoardFields}
 use Rattle.fibs_position.specs.Allowed.{refusal_of as refusal_at}
 use Rattle.fibs_position.specs.DecisionValue.{DecisionValue, decision_of}
 use Rattle.fibs_position.specs.GameOf.{game_of}
 use Rattle.fibs_position.specs.PositionValue.{PositionValue, position_of}
 use Rattle.fibs_position.specs.declared.disallowed.Disallowed.{Disallowed}
 use Rattle.fibs_position.specs.declared.game_board.GameBoard.{GameBoard}
-use Rattle.fibs_history.specs.Allows.{allows, refusal_of}
-use Rattle.fibs_history.specs.Log.{Flags}
-use Rattle.fibs_history.specs.declared.refusal.Refusal.TheVariants.{Waiting}
+use Rattle.fibs_session.specs.History.Allows.{allows, refusal_of}
+use Rattle.fibs_session.specs.History.Log.{Flags}
+use Rattle.fibs_session.specs.declared.histories.refusal.Refusal.TheVariants.{Waiting}
 use Rattle.fibs_session.specs.Calls.FieldSteps.{answer_of}
 use Rattle.fibs_session.specs.Calls.SessionOf.{session_of, server_flags, ask_of}
 use Rattle.fibs_session.specs.Calls.SessionValue.{SessionValue}

@@ -1,10 +1,10 @@
 use Rattle.std.proofs.Common.{◌≡◌, true, Result, Ok, Err, is_none, pos, refl, ap, ◌∙◌, rules}
 use Rattle.std.specs.Ordering.{int_eq}
 use Rattle.std.specs.Result.{is_ok, result_err}
-use Rattle.fibs_boards.specs.Board.{field_of}
-use Rattle.fibs_boards.specs.StoredBoard.{fields_of}
+use Rattle.fibs_fields.specs.Board.{field_of}
+use Rattle.fibs_fields.specs.StoredBoard.{fields_of}
 use Rattle.fibs_position.specs.Phases.{phase_of}
-use Rattle.fibs_history.specs.Orders.{is_to_roll}
+use Rattle.fibs_session.specs.History.Orders.{is_to_roll}
 use Rattle.fibs_session.specs.Calls.FieldSteps.{due_of}
 use Rattle.fibs_session.proofs.session.Session.is_due.Goals as goal
 

@@ -1,7 +1,7 @@
 use Rattle.std.proofs.Common.{◌∙◌, ap}
 use Rattle.fibs_lines.specs.Lines.{value_of}
 use Rattle.fibs_position.specs.GamePart.{same_game}
-use Rattle.fibs_history.specs.Words.{IsLikeness}
+use Rattle.fibs_session.specs.History.Words.{IsLikeness}
 use Rattle.fibs_session.specs.Calls.FieldSteps.{line_fields}
 use Rattle.fibs_session.specs.Calls.SessionOf.{session_of}
 use Rattle.fibs_session.proofs.Calls.SessionLaws.{line_hears}

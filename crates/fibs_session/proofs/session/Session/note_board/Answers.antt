@@ -1,9 +1,9 @@
 use Rattle.std.proofs.Common.{◌≡◌, sym, ap, ◌∙◌, rules}
-use Rattle.fibs_boards.specs.StoredBoard.{fields_of}
+use Rattle.fibs_fields.specs.StoredBoard.{fields_of}
 use Rattle.fibs_position.specs.DecisionValue.{roll}
 use Rattle.fibs_position.specs.DirectionOf.{direction_of}
 use Rattle.fibs_commands.specs.Commands.{command_of}
-use Rattle.fibs_history.specs.Words.{one_if}
+use Rattle.fibs_session.specs.History.Words.{one_if}
 use Rattle.fibs_session.specs.Calls.FieldSteps.{with_roll}
 use Rattle.fibs_session.specs.Calls.SessionOf.{session_of, texts_of}
 use Rattle.fibs_session.proofs.Calls.ShownBoards as B

@@ -1,5 +1,5 @@
 use Rattle.std.proofs.Common.{true}
-use Rattle.fibs_exchange.specs.Turns.Turn.{FitsStream}
+use Rattle.fibs_connect.specs.Turns.Turn.{FitsStream}
 use Rattle.fibs_tests.proofs.turns.refused_notes.assert_alike.Given as goal
 
 -- both clients are online

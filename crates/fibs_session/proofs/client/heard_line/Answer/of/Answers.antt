@@ -3,8 +3,8 @@ use Rattle.fibs_lines.specs.Lines.{ReadLine}
 use Rattle.fibs_lines.specs.Lines.{value_of}
 use Rattle.fibs_messages.specs.Line.{reading_value}
 use Rattle.fibs_position.specs.GamePart.{same_game}
-use Rattle.fibs_history.specs.Hearing.{line_reading}
-use Rattle.fibs_history.specs.Words.{IsLikeness}
+use Rattle.fibs_session.specs.History.Hearing.{line_reading}
+use Rattle.fibs_session.specs.History.Words.{IsLikeness}
 use Rattle.fibs_session.specs.Calls.FieldSteps.{line_fields}
 use Rattle.fibs_session.specs.Calls.SessionOf.{session_of}
 use Rattle.fibs_session.proofs.Calls.SessionLaws.{line_hears}

@@ -1,2 +1,0 @@
--- Why the definitions of boards and the code agree.
-pub mod BoardLemmas

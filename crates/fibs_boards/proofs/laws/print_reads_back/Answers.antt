@@ -1,9 +1,0 @@
-use Rattle.std.proofs.Common.{sym, subst}
-use Rattle.fibs_boards.specs.Board.{BoardText}
-use Rattle.fibs_boards.specs.StoredBoard.{fields_of}
-use Rattle.fibs_boards.proofs.laws.print_reads_back.Goals as goal
-
-pub returns : goal.returns
-returns c =
-    c.read.ensures.only (fields_of c.args.board.now)
-    (subst (λ l. BoardText (fields_of c.args.board.now) l) (sym c.as_slice.ensures.value) c.print.ensures.says)

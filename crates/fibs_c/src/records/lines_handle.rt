@@ -1,0 +1,80 @@
+//! A reader of lines, or none, as C holds it.
+
+ghost use Rattle.std.specs.Prelude.{◌≡◌, Option, None, Some, option_map};
+ghost use Rattle.fibs_lines.specs.LinesValue.{LinesValue};
+ghost use Rattle.fibs_lines.specs.contracts.lines.Lines.{the_row};
+ghost use Rattle.fibs_c.specs.Records.Handles.{maybe_owns};
+ghost use Rattle.std_alloc.specs.Box.{box_value};
+ghost use Rattle.libc.specs.Heap.{chunk};
+
+use crate::records::loose::Loose;
+use fibs_lines::Lines;
+use std::alloc::Global;
+use std::marker::Model;
+use std::{mem, ptr};
+
+/// A reader of lines, or none, as C holds it.
+///
+/// C sees a pointer. It begins with null, which holds none, and from then on only hands it to the functions of this
+/// library.
+#[repr(C)]
+#[derive(Drop)]
+pub struct LinesHandle {
+    at: *mut u8,
+    pub ghost value: { Option LinesValue },
+}
+
+impl Model for LinesHandle {
+    ghost also_owns = { λ h. maybe_owns chunk the_row h.at h.value };
+}
+
+impl LinesHandle {
+    /// None.
+    pub fn none() -> LinesHandle
+        ensures { result.value ≡ None }
+    {
+        LinesHandle {
+            at: ptr::null_mut(),
+        }
+    }
+
+    /// The one behind the pointer.
+    fn of_loose(loose: Loose<Lines, Global>) -> LinesHandle
+        ensures { result.value ≡ Some loose.value }
+    {
+        let Loose { at, alloc: _ } = loose;
+        LinesHandle { at: at as *mut u8 }
+    }
+
+    /// The pointer, if there is one.
+    fn into_loose(self, alloc: Global) -> Option<Loose<Lines, Global>>
+        ensures { option_map (λ l. l.value) result ≡ self.value }
+    {
+        let LinesHandle { at } = self;
+        if at.is_null() {
+            return None;
+        }
+        Some(Loose {
+            at: at as *mut Lines,
+            alloc,
+        })
+    }
+
+    /// The one in the box.
+    pub fn of(held: Box<Lines, Global>) -> LinesHandle
+        ensures { result.value ≡ Some (box_value held) }
+    {
+        LinesHandle::of_loose(Loose::of(held))
+    }
+
+    /// Takes it out, if there is one.
+    pub fn take(&mut self, alloc: Global) -> Option<Box<Lines, Global>>
+        ensures value { option_map box_value result ≡ self.old.value }
+        ensures none { self.new.value ≡ None }
+    {
+        match mem::replace(self, LinesHandle::none()).into_loose(alloc) {
+            Some(loose) => Some(loose.into_box()),
+            None => None,
+        }
+    }
+}

@@ -1,8 +1,0 @@
-//! Carriers of bytes between a client and a server: within one memory, or over the sockets of one machine.
-#![tactic(auto)]
-
-mod carrier;
-mod sockets;
-
-pub use carrier::{Broken, Carrier, InMemory, Way};
-pub use sockets::{BothEnds, Connects, Ends, Sockets};

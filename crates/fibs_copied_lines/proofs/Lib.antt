@@ -1,3 +1,0 @@
--- Why numbers that are found right at once are right, and why a line whose fields are spelled as they are printed is a
--- message's canonical line.
-pub mod LineLemmas

@@ -1,8 +1,0 @@
-use Rattle.std.proofs.Common.{take}
-use Rattle.fibs_fields.specs.Split.{seen}
-use Rattle.fibs_copied_lines.specs.Standing.{kinds_seen, AllStand}
-use Rattle.fibs_copied_lines.proofs.canonical.all_stand.Given as goal
-
--- the fields so far are as they are printed
-abbrev pub invariant-loop-kind : goal.invariant-loop-kind
-invariant-loop-kind l = AllStand (kinds_seen (take l.kind-index l.kinds)) (seen l.fields) (seen l.rest)

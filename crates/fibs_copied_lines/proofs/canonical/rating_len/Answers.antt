@@ -1,9 +1,0 @@
-use Rattle.std.proofs.Common.{sym, ◌∙◌}
-use Rattle.fibs_copied_lines.proofs.LineLemmas.BeginningFields.{rating_begins}
-use Rattle.fibs_copied_lines.proofs.canonical.rating_len.Goals as goal
-
-pub returns : goal.returns
-returns c =
-    rating_begins c.args.text.now c.in_ok-whole.whole c.in_ok-whole.ensures c.if-text-whole.false
-    c.if-text-whole-ne46.false (sym c.is_ascii_digit.ensures.value ∙ c.if-not-is_ascii_digit.false)
-    (sym c.is_ascii_digit-else-not-is_ascii_digit.ensures.value ∙ c.if-not-is_ascii_digit-2.false)

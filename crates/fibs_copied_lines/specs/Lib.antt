@@ -1,5 +1,0 @@
--- What checking a line answered.
-pub mod Checked
--- What only private functions and proofs say.
-pub mod RightNumbers
-pub mod Standing

@@ -1,5 +1,0 @@
-use Rattle.std.proofs.Common.{sym, ◌∙◌}
-use Rattle.fibs_drawing.proofs.laws.drawings_tell.Goals as goal
-
-pub returns : goal.returns
-returns c = λ a b text good sound p q. c.picture_tells.ensures a b good sound (sym p ∙ q)

@@ -1,0 +1,7 @@
+//! The world as a machine over events, and what holds of it: the headline. It has definitions and laws; the world of
+//! the program is in `fibs_model`.
+
+pub mod laws;
+mod refusal;
+
+pub use refusal::WorldRefusal;

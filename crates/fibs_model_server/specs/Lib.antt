@@ -1,3 +1,0 @@
-pub mod ServerOf
-pub mod EventOf
-pub mod EntryOf

@@ -1,3 +1,0 @@
-mod LogLemmas
-mod ReplayLemmas
-mod TellingLemmas

@@ -1,5 +1,0 @@
-use Rattle.fibs_objects.proofs.TellingLemmas.{said_tell}
-use Rattle.fibs_objects.proofs.laws.said_tell_lines.Goals as goal
-
-pub returns : goal.returns
-returns c = said_tell c.openings_tell.ensures

@@ -1,6 +1,0 @@
-pub mod Entries
-pub mod Endings
-pub mod Replayed
--- What only private functions and proofs say.
-pub mod Printing
-pub mod Said

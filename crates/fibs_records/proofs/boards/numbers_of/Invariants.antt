@@ -1,8 +1,0 @@
-use Rattle.std.proofs.Common.{◌≡◌, ◌+◌, ◌<◌, ℕ, pos, length, slice_index_or}
-use Rattle.fibs_boards.specs.Board.{field_of}
-use Rattle.fibs_boards.specs.StoredBoard.{fields_of}
-use Rattle.fibs_records.proofs.boards.numbers_of.Given as goal
-
-abbrev pub invariant-loop-i : goal.invariant-loop-i
-invariant-loop-i l = (length l.numbers ≡ 50)
-    × ((j : ℕ) → j < l.i → slice_index_or l.numbers j (pos 0) ≡ field_of (fields_of l.fn.board) (j + 4))

@@ -1,8 +1,0 @@
-//! Laws of the statuses.
-
-ghost use Rattle.fibs_records.specs.Statuses.{StatusesAreNamed};
-
-/// The name of a status is that of the refusal or the fault.
-pub fn statuses_are_named()
-    ensures { StatusesAreNamed }
-{}

@@ -1,0 +1,5 @@
+use Rattle.fibs_session.proofs.History.Owing.{takes_from_owed}
+use Rattle.fibs_session.proofs.histories.laws.pieces_take_from_what_is_owed.Goals as goal
+
+pub returns : goal.returns
+returns c = takes_from_owed

@@ -1,0 +1,51 @@
+-- The numbers and names of a client's refusals (the project's own).
+use Rattle.std.specs.Prelude.{ℕ, List, codes}
+use Rattle.fibs_commands.specs.PlainFaults.{plain_fault_number, plain_fault_name}
+use Rattle.fibs_session.specs.declared.histories.refusal.PlainRefusal.{PlainRefusal}
+use Rattle.fibs_session.specs.declared.histories.refusal.PlainRefusal.TheVariants as P
+use Rattle.fibs_session.specs.declared.histories.refusal.Refusal.{Refusal}
+use Rattle.fibs_session.specs.declared.histories.refusal.Refusal.TheVariants.{AlreadyOpen, Offline, NotReady}
+use Rattle.fibs_session.specs.declared.histories.refusal.Refusal.TheVariants.{ServerPlays}
+use Rattle.fibs_session.specs.declared.histories.refusal.Refusal.TheVariants.{NoBoard, Waiting, NotYours, WrongKind}
+use Rattle.fibs_session.specs.declared.histories.refusal.Refusal.TheVariants.{IllegalPlay}
+use Rattle.fibs_session.specs.declared.histories.refusal.Refusal.TheVariants.{NotOn, AlreadyOrdered, NotOrdered}
+
+abbrev pub refusal_number : Refusal → ℕ
+refusal_number AlreadyOpen = 1
+refusal_number Offline = 2
+refusal_number NotReady = 3
+refusal_number ServerPlays = 4
+refusal_number NoBoard = 5
+refusal_number Waiting = 6
+refusal_number NotYours = 7
+refusal_number WrongKind = 8
+refusal_number IllegalPlay = 9
+refusal_number NotOn = 10
+refusal_number AlreadyOrdered = 11
+refusal_number NotOrdered = 12
+
+abbrev pub refusal_name : Refusal → List ℕ
+refusal_name AlreadyOpen = codes "AlreadyOpen"
+refusal_name Offline = codes "Offline"
+refusal_name NotReady = codes "NotReady"
+refusal_name ServerPlays = codes "ServerPlays"
+refusal_name NoBoard = codes "NoBoard"
+refusal_name Waiting = codes "Waiting"
+refusal_name NotYours = codes "NotYours"
+refusal_name WrongKind = codes "WrongKind"
+refusal_name IllegalPlay = codes "IllegalPlay"
+refusal_name NotOn = codes "NotOn"
+refusal_name AlreadyOrdered = codes "AlreadyOrdered"
+refusal_name NotOrdered = codes "NotOrdered"
+
+-- the number and the name of the same refusal of a decision, or of the fault
+
+abbrev pub plain_refusal_number : PlainRefusal → ℕ
+plain_refusal_number P.Offline = refusal_number Offline
+plain_refusal_number P.NotOn = refusal_number NotOn
+plain_refusal_number (P.Fault fault) = plain_fault_number fault
+
+abbrev pub plain_refusal_name : PlainRefusal → List ℕ
+plain_refusal_name P.Offline = refusal_name Offline
+plain_refusal_name P.NotOn = refusal_name NotOn
+plain_refusal_name (P.Fault fault) = plain_fault_name fault

@@ -1,0 +1,17 @@
+//! The boards of a terminal: their pictures with marks, the same in words, which of those that come are drawn whole,
+//! and how a game ended.
+
+mod boards;
+pub mod laws;
+mod layout;
+mod outcomes;
+mod picture;
+mod watched;
+mod watching;
+mod worded;
+
+pub use boards::Boards;
+pub use picture::append_picture;
+pub use watched::{append_watched, append_watched_words};
+pub use watching::Watching;
+pub use worded::append_words;

@@ -1,0 +1,249 @@
+//! The turns of a game, as far as boards show them.
+
+use crate::story::finding::played;
+use crate::story::mirror::mirrored;
+use fibs_commands::decision_text;
+use fibs_fields::boards::Board;
+use fibs_fields::boards::fields::{
+    FIRST_DIE, MATCH_LENGTH, OTHER_FIRST_DIE, OTHER_SCORE, OWN_SCORE, SECOND_DIE,
+};
+use fibs_fields::decimal::append_number;
+use fibs_position::{Decision, GameBoard, Phase, Play, differs};
+use itoa::Buffer;
+use std::alloc::{AllocError, Global};
+
+/// How many turns are kept: no game of people is longer.
+const MOST_KEPT: usize = 500;
+
+/// How many turns are listed, unless all are asked for.
+const MOST_LISTED: usize = 20;
+
+/// The columns of a number.
+const NUMBER_COLUMNS: usize = 3;
+
+/// How many bytes of the opponent's name are told.
+const MOST_NAMED: usize = 24;
+
+/// How many bytes of a move's command come before its steps: `move`.
+const MOVE_WORD: usize = 4;
+
+/// Who has rolled.
+#[derive(Clone, Copy, PartialEq, Eq)]
+enum Roller {
+    Own,
+    Other,
+}
+
+/// A turn: the board on which its dice are shown, and the board that came after it, both as the one sees them who has
+/// rolled.
+#[derive(Clone, Copy)]
+struct Turn {
+    roller: Roller,
+    before: GameBoard,
+    after: Board,
+}
+
+/// The turns of a game that boards have shown, the oldest first.
+#[derive(Drop)]
+pub struct Story {
+    turns: Vec<Turn>,
+    /// How many turns were forgotten, since there were too many.
+    forgotten: usize,
+    /// The board that came last.
+    last: Option<GameBoard>,
+}
+
+/// Who has rolled and not played on a board.
+fn roller_of(game: &GameBoard) -> Option<Roller> {
+    match game.phase() {
+        Phase::Move | Phase::Passing => Some(Roller::Own),
+        Phase::OpponentActs if game.board().die(OTHER_FIRST_DIE) > 0 => Some(Roller::Other),
+        _ => None,
+    }
+}
+
+/// Whether a board is of another game than the one before it. On the last board of a game the score may be that of its
+/// end.
+fn begins_anew(before: &GameBoard, game: &GameBoard) -> bool {
+    let (a, b) = (before.board(), game.board());
+    if a.opponent().bytes() != b.opponent().bytes()
+        || a.field(MATCH_LENGTH) != b.field(MATCH_LENGTH)
+    {
+        return true;
+    }
+    let is_same_score = a.field(OWN_SCORE) == b.field(OWN_SCORE)
+        && a.field(OTHER_SCORE) == b.field(OTHER_SCORE);
+    game.phase() != Phase::Over && (before.phase() == Phase::Over || !is_same_score)
+}
+
+/// The turn from a board to the one after it, if somebody has rolled on the first.
+fn turn_of(before: &GameBoard, after: &GameBoard) -> Option<Turn> {
+    match roller_of(before)? {
+        Roller::Own => Some(Turn {
+            roller: Roller::Own,
+            before: *before,
+            after: *after.board(),
+        }),
+        Roller::Other => Some(Turn {
+            roller: Roller::Other,
+            before: GameBoard::of(&mirrored(before.board())).ok()?,
+            after: mirrored(after.board()),
+        }),
+    }
+}
+
+impl Story {
+    /// No board has come.
+    pub fn new(alloc: Global) -> Story {
+        Story {
+            turns: Vec::new(alloc),
+            forgotten: 0,
+            last: None,
+        }
+    }
+
+    /// A game begins: none of its boards has come.
+    pub fn begin(&mut self) {
+        self.turns.clear();
+        self.forgotten = 0;
+        self.last = None;
+    }
+
+    /// A board of the user's game has come.
+    ///
+    /// Errors: if memory runs out; then the turn before it is not kept.
+    pub fn hear_board(&mut self, game: &GameBoard) -> Result<(), AllocError> {
+        let last = self.last;
+        self.last = Some(*game);
+        let Some(last) = last else {
+            return Ok(());
+        };
+        if begins_anew(&last, game) {
+            self.turns.clear();
+            self.forgotten = 0;
+            return Ok(());
+        }
+        if !differs(last.board(), game.board()) {
+            return Ok(());
+        }
+        match turn_of(&last, game) {
+            None => Ok(()),
+            Some(turn) => self.keep(turn),
+        }
+    }
+
+    /// Keeps a turn; the oldest goes if there are many.
+    fn keep(&mut self, turn: Turn) -> Result<(), AllocError> {
+        if self.turns.len() >= MOST_KEPT {
+            self.turns.remove(0);
+            self.forgotten = self.forgotten.saturating_add(1);
+        }
+        self.turns.push(turn)?;
+        Ok(())
+    }
+
+    /// Appends a row for each turn, numbered: who rolled what, and the play; `?` if the boards do not show which. They
+    /// are the last 20, unless all are asked for.
+    ///
+    /// Errors: if memory runs out.
+    pub fn append_turns(
+        &self,
+        alloc: Global,
+        is_all: bool,
+        text: &mut Vec<u8>,
+    ) -> Result<(), AllocError> {
+        if self.turns.is_empty() {
+            return text.extend_from_slice(
+                b"No board of this game has shown a roll and its play yet.\n",
+            );
+        }
+        let count = self.turns.len();
+        let first = if is_all {
+            0
+        } else {
+            count.saturating_sub(MOST_LISTED)
+        };
+        if first > 0 {
+            append_before(first, text)?;
+        }
+        for place in first..count {
+            let number = place.saturating_add(self.forgotten).saturating_add(1);
+            append_turn(alloc, &self.turns[place], number, text)?;
+        }
+        Ok(())
+    }
+}
+
+/// Appends how many turns come before those that are listed, and what to type for them.
+fn append_before(count: usize, text: &mut Vec<u8>) -> Result<(), AllocError> {
+    text.extend_from_slice(b".. ")?;
+    append_number(count, text)?;
+    text.extend_from_slice(b" before: moves all\n")
+}
+
+/// Appends a number at the right of its columns, and a full stop.
+fn append_row_number(number: usize, text: &mut Vec<u8>) -> Result<(), AllocError> {
+    let mut buffer = Buffer::new();
+    let digits = buffer.format(number).as_bytes();
+    for _ in digits.len()..NUMBER_COLUMNS {
+        text.extend_from_slice(b" ")?;
+    }
+    text.extend_from_slice(digits)?;
+    text.extend_from_slice(b". ")
+}
+
+/// Appends who has rolled.
+fn append_roller(turn: &Turn, text: &mut Vec<u8>) -> Result<(), AllocError> {
+    match turn.roller {
+        Roller::Own => text.extend_from_slice(b"You roll "),
+        Roller::Other => {
+            let name = turn.after.opponent().bytes();
+            text.extend_from_slice(&name[..name.len().min(MOST_NAMED)])?;
+            text.extend_from_slice(b" rolls ")
+        }
+    }
+}
+
+/// Appends what was rolled.
+fn append_dice(turn: &Turn, text: &mut Vec<u8>) -> Result<(), AllocError> {
+    let board = turn.before.board();
+    append_number(board.die(FIRST_DIE), text)?;
+    text.extend_from_slice(b" and ")?;
+    append_number(board.die(SECOND_DIE), text)?;
+    text.extend_from_slice(b":")
+}
+
+/// Appends a play: its steps as they are typed.
+fn append_play(
+    play: Option<Play>,
+    before: &GameBoard,
+    text: &mut Vec<u8>,
+) -> Result<(), AllocError> {
+    let Some(play) = play else {
+        return text.extend_from_slice(b" ?");
+    };
+    if play.steps().is_empty() {
+        return text.extend_from_slice(b" no move");
+    }
+    let command = decision_text(&Decision::Move(play), before.direction());
+    let bytes = command.as_bytes();
+    text.extend_from_slice(&bytes[MOVE_WORD.min(bytes.len())..])
+}
+
+/// Appends the row of a turn.
+fn append_turn(
+    alloc: Global,
+    turn: &Turn,
+    number: usize,
+    text: &mut Vec<u8>,
+) -> Result<(), AllocError> {
+    append_row_number(number, text)?;
+    append_roller(turn, text)?;
+    append_dice(turn, text)?;
+    append_play(
+        played(alloc, &turn.before, &turn.after)?,
+        &turn.before,
+        text,
+    )?;
+    text.extend_from_slice(b"\n")
+}

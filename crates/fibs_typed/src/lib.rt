@@ -1,6 +1,0 @@
-//! What a line that a user types is: a decision, a plain command, a standing order, or none of these; and whether the
-//! client would take it.
-#![tactic(auto)]
-
-pub mod taking;
-pub mod typing;

@@ -1,0 +1,30 @@
+//! What a terminal is.
+
+use crate::environment::zone::Zone;
+
+/// What kind of terminal it is, as the environment says, and the address of the server.
+#[derive(Clone, Copy)]
+pub struct Settings<'a> {
+    /// How many columns a line may have.
+    pub columns: usize,
+    /// Whether it shows bold letters.
+    pub colour: bool,
+    /// Whether the bell may ring.
+    pub bell: bool,
+    /// Whether the title of its window may say whose turn it is.
+    pub title: bool,
+    /// The letters of the player's checkers and of the opponent's, if they are not O and X.
+    pub letters: Option<[u8; 2]>,
+    /// Whether the player's home is above in a picture.
+    pub is_turned: bool,
+    /// Whether a board is told in words, in place of its picture.
+    pub words: bool,
+    /// Whether it shows letters beyond ASCII, as UTF-8.
+    pub utf8: bool,
+    /// The clock of the place.
+    pub zone: Zone<'a>,
+    /// The server's name.
+    pub host: &'a [u8],
+    /// The server's port.
+    pub port: u16,
+}
