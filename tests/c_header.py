@@ -21,7 +21,7 @@ SOURCES = sorted(path for crate in ('fibs_c',)
 RECORDS = {'LinesHandle': 'fibs_lines', 'ClientHandle': 'fibs_client', 'DirectoryHandle': 'fibs_directory',
            'FedLine': 'fibs_fed', 'LineKind': 'fibs_kind', 'ToldLine': 'fibs_line', 'Told': 'fibs_told',
            'BoardRecord': 'fibs_board', 'FieldRecord': 'fibs_field', 'PlayStep': 'fibs_step',
-           'DecisionRecord': 'fibs_decision', 'Wire': 'fibs_wire', 'OutstandingRecord': 'fibs_outstanding',
+           'DecisionRecord': 'fibs_decision', 'WireRecord': 'fibs_wire', 'OutstandingRecord': 'fibs_outstanding',
            'Heard': 'fibs_heard', 'PartRecord': 'fibs_part', 'PlayerRecord': 'fibs_player'}
 
 NUMBERS = {'u8': 'uint8_t', 'u16': 'uint16_t', 'u32': 'uint32_t', 'u64': 'uint64_t', 'i32': 'int32_t',

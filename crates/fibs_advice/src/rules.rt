@@ -12,7 +12,7 @@ const LAST_OF_HOME: u8 = 6;
 
 /// A rule that a move breaks.
 #[derive(Clone, Copy)]
-enum Broken {
+enum BrokenRule {
     /// A checker on the bar enters first.
     Bar,
     /// No checker is there.
@@ -74,18 +74,18 @@ fn is_played_by(die: u8, step: &Step) -> bool {
 }
 
 /// The rule that a step breaks after others, if it breaks one by itself.
-fn broken_by(position: &Position, dice: (u8, u8), before: &[Step], step: &Step) -> Option<Broken> {
+fn broken_by(position: &Position, dice: (u8, u8), before: &[Step], step: &Step) -> Option<BrokenRule> {
     if step.source() != BAR && checkers_on(position, before, BAR) > 0 {
-        return Some(Broken::Bar);
+        return Some(BrokenRule::Bar);
     }
     if checkers_on(position, before, step.source()) == 0 {
-        return Some(Broken::Empty(step.source()));
+        return Some(BrokenRule::Empty(step.source()));
     }
     if !is_played_by(dice.0, step) && !is_played_by(dice.1, step) {
-        return Some(Broken::Distance(*step));
+        return Some(BrokenRule::Distance(*step));
     }
     if is_held(position, step.target()) {
-        return Some(Broken::Held(step.target()));
+        return Some(BrokenRule::Held(step.target()));
     }
     if step.target() == 0 {
         return broken_by_bearing_off(position, dice, before, step);
@@ -100,22 +100,22 @@ fn broken_by_bearing_off(
     dice: (u8, u8),
     before: &[Step],
     step: &Step,
-) -> Option<Broken> {
+) -> Option<BrokenRule> {
     let distance = distance_of(step);
     if is_behind(position, before, LAST_OF_HOME) {
-        Some(Broken::Outside)
+        Some(BrokenRule::Outside)
     } else if distance != dice.0
         && distance != dice.1
         && is_behind(position, before, step.source())
     {
-        Some(Broken::Behind)
+        Some(BrokenRule::Behind)
     } else {
         None
     }
 }
 
 /// The rule that a move breaks, if one can be named.
-fn broken_rule(position: &Position, dice: (u8, u8), play: &Play) -> Option<Broken> {
+fn broken_rule(position: &Position, dice: (u8, u8), play: &Play) -> Option<BrokenRule> {
     let steps = play.steps();
     for place in 0..steps.len() {
         let found = broken_by(position, dice, &steps[..place], &steps[place]);
@@ -125,9 +125,9 @@ fn broken_rule(position: &Position, dice: (u8, u8), play: &Play) -> Option<Broke
     }
     let most = position.most_dice();
     if steps.len() < usize::from(most) {
-        Some(Broken::MoreDice(most))
+        Some(BrokenRule::MoreDice(most))
     } else if steps.len() == 1 {
-        Some(Broken::Larger)
+        Some(BrokenRule::Larger)
     } else {
         None
     }
@@ -185,21 +185,21 @@ fn append_distance(
 
 /// Appends a rule that is broken.
 fn append_broken(
-    broken: &Broken,
+    broken: &BrokenRule,
     direction: Direction,
     text: &mut Vec<u8>,
 ) -> Result<(), AllocError> {
     match broken {
-        Broken::Bar => text.extend_from_slice(b"A checker on the bar enters first."),
-        Broken::Empty(place) => {
+        BrokenRule::Bar => text.extend_from_slice(b"A checker on the bar enters first."),
+        BrokenRule::Empty(place) => {
             append_of_place(b"You have no checker on ", *place, direction, text)
         }
-        Broken::Held(place) => append_of_place(b"Your opponent holds ", *place, direction, text),
-        Broken::Outside => { text.extend_from_slice(b"No checker goes off before all are home.") }
-        Broken::Behind => text.extend_from_slice(b"A checker farther back goes first."),
-        Broken::Distance(step) => append_distance(step, direction, text),
-        Broken::MoreDice(most) => append_more_dice(*most, text),
-        Broken::Larger => text.extend_from_slice(b"The larger die must be played."),
+        BrokenRule::Held(place) => append_of_place(b"Your opponent holds ", *place, direction, text),
+        BrokenRule::Outside => { text.extend_from_slice(b"No checker goes off before all are home.") }
+        BrokenRule::Behind => text.extend_from_slice(b"A checker farther back goes first."),
+        BrokenRule::Distance(step) => append_distance(step, direction, text),
+        BrokenRule::MoreDice(most) => append_more_dice(*most, text),
+        BrokenRule::Larger => text.extend_from_slice(b"The larger die must be played."),
     }
 }
 

@@ -11,7 +11,7 @@ use Rattle.fibs_session.specs.Calls.Standing.{ClientValue}
 use Rattle.fibs_session.specs.History.Machine.{InputValue, step, wire_of}
 use Rattle.fibs_c.specs.Records.Statuses.{refusal_status, plain_status}
 use Rattle.fibs_c.specs.Records.Wires.{Holds, IsEmptied}
-use Rattle.fibs_c.specs.declared.records.wire.Wire.{Wire}
+use Rattle.fibs_c.specs.declared.records.wire.WireRecord.{WireRecord}
 use Rattle.fibs_c.specs.ClientDoor.{DoesOnWire, DoesUnsaid}
 
 -- a fact of what a handle held and of what it holds again is one of the handle
@@ -23,7 +23,7 @@ put_back R old new lent held after same was is h =
     (subst (λ (n : Option ClientValue). R (Some lent) n) (sym is) h)
 
 -- what a wire holds after it was emptied it holds after what it was before
-pub held : (first cleared last : Wire) (bytes : List ℕ) → IsEmptied first cleared → Holds cleared last bytes
+pub held : (first cleared last : WireRecord) (bytes : List ℕ) → IsEmptied first cleared → Holds cleared last bytes
     → Holds first last bytes
 held first cleared last bytes one holds = record {
   few = holds.few;
@@ -33,7 +33,7 @@ held first cleared last bytes one holds = record {
 }
 
 -- the commands that were handed out are on the wire, which was emptied before
-pub on_wire : (old new : ClientValue) (i : InputValue) (send : List (List ℕ)) (first cleared last : Wire)
+pub on_wire : (old new : ClientValue) (i : InputValue) (send : List (List ℕ)) (first cleared last : WireRecord)
     → Does old new i send → IsEmptied first cleared → Holds cleared last (wire_of send)
     → DoesOnWire old new i first last
 on_wire old new i send first cleared last does one holds = record {
@@ -47,7 +47,7 @@ pub unsaid : (old new : ClientValue) (i : InputValue) → Does old new i [] → 
 unsaid old new i does = record { stands = does.stands; hands_none = λ t s. ap wire_of (does.hands t s) }
 
 -- a wire that is emptied twice is emptied
-pub emptied : (first cleared last : Wire) → IsEmptied first cleared → IsEmptied cleared last → IsEmptied first last
+pub emptied : (first cleared last : WireRecord) → IsEmptied first cleared → IsEmptied cleared last → IsEmptied first last
 emptied first cleared last one other =
     record { len_is = other.len_is; bytes_are = other.bytes_are ∙ one.bytes_are }
 

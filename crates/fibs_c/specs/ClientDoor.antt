@@ -18,7 +18,7 @@ use Rattle.fibs_c.specs.Records.Texts.{HandsOut}
 use Rattle.fibs_c.specs.Records.Wires.{Holds, IsEmptied}
 use Rattle.fibs_c.specs.declared.records.boards.BoardRecord.{BoardRecord}
 use Rattle.fibs_c.specs.declared.records.outstanding.OutstandingRecord.{OutstandingRecord}
-use Rattle.fibs_c.specs.declared.records.wire.Wire.{Wire}
+use Rattle.fibs_c.specs.declared.records.wire.WireRecord.{WireRecord}
 
 -- a client of that login was made; or the first of these reasons against it: one is held, the name or the password is
 -- wrong, memory ran out
@@ -33,7 +33,7 @@ IsNewClient None new name password status = IsNewFor (login_fault name password)
 
 -- for each history by which the client was reached, that history with the input reaches it now, and the wire holds just
 -- the bytes of the commands that the machine hands out; what follows them there is as it was
-pub record DoesOnWire (old new : ClientValue) (i : InputValue) (wire wire' : Wire) : Type 0 where
+pub record DoesOnWire (old new : ClientValue) (i : InputValue) (wire wire' : WireRecord) : Type 0 where
   pub stands : (t : Talk) → StandsAfter old t → StandsAfter new (step t i).talk
   pub hands : (t : Talk) → StandsAfter old t → Holds wire wire' (wire_of (step t i).send)
 
@@ -43,35 +43,35 @@ pub record DoesUnsaid (old new : ClientValue) (i : InputValue) : Type 0 where
   pub hands_none : (t : Talk) → StandsAfter old t → [] ≡ wire_of (step t i).send
 
 -- what `Client::open` does, and its refusal
-pub record Opens (old new : ClientValue) (wire wire' : Wire) (status : ℕ) : Type 0 where
+pub record Opens (old new : ClientValue) (wire wire' : WireRecord) (status : ℕ) : Type 0 where
   pub does : DoesOnWire old new Open wire wire'
   pub refusal : (t : Talk) → StandsAfter old t → status ≡ refusal_status (open_refusal t)
   pub kept : status ≢ 0 → (new ≡ old) × IsEmptied wire wire'
 
-abbrev pub IsOpened : Option ClientValue → Option ClientValue → Wire → Wire → ℕ → Type 0
+abbrev pub IsOpened : Option ClientValue → Option ClientValue → WireRecord → WireRecord → ℕ → Type 0
 IsOpened None new wire wire' status = (status ≡ 501) × (new ≡ None) × IsEmptied wire wire'
 IsOpened (Some c) None wire wire' status = ⊥
 IsOpened (Some c) (Some d) wire wire' status = Opens c d wire wire' status
 
 -- what `Client::decide` does, and its refusal
-pub record Decides (old new : ClientValue) (d : DecisionValue) (wire wire' : Wire) (status : ℕ) : Type 0 where
+pub record Decides (old new : ClientValue) (d : DecisionValue) (wire wire' : WireRecord) (status : ℕ) : Type 0 where
   pub does : DoesOnWire old new (Click d) wire wire'
   pub refusal : (t : Talk) → StandsAfter old t → status ≡ refusal_status (answer_now t d)
   pub kept : status ≢ 0 → (new ≡ old) × IsEmptied wire wire'
 
-abbrev pub IsDecided : Option DecisionValue → Option ClientValue → Option ClientValue → Wire → Wire → ℕ → Type 0
+abbrev pub IsDecided : Option DecisionValue → Option ClientValue → Option ClientValue → WireRecord → WireRecord → ℕ → Type 0
 IsDecided None old new wire wire' status = (status ≡ 504) × (new ≡ old) × IsEmptied wire wire'
 IsDecided (Some d) None new wire wire' status = (status ≡ 501) × (new ≡ None) × IsEmptied wire wire'
 IsDecided (Some d) (Some c) None wire wire' status = ⊥
 IsDecided (Some d) (Some c) (Some c') wire wire' status = Decides c c' d wire wire' status
 
 -- what `Client::plain` does, and its refusal
-pub record SendsPlain (old new : ClientValue) (p : PlainValue) (wire wire' : Wire) (status : ℕ) : Type 0 where
+pub record SendsPlain (old new : ClientValue) (p : PlainValue) (wire wire' : WireRecord) (status : ℕ) : Type 0 where
   pub does : DoesOnWire old new (PlainInput p) wire wire'
   pub refusal : (t : Talk) → StandsAfter old t → status ≡ plain_status (plain_refusal t p)
   pub kept : status ≢ 0 → (new ≡ old) × IsEmptied wire wire'
 
-abbrev pub IsPlainSent : Option PlainValue → Option ClientValue → Option ClientValue → Wire → Wire → ℕ → Type 0
+abbrev pub IsPlainSent : Option PlainValue → Option ClientValue → Option ClientValue → WireRecord → WireRecord → ℕ → Type 0
 IsPlainSent None old new wire wire' status = (status ≡ 505) × (new ≡ old) × IsEmptied wire wire'
 IsPlainSent (Some p) None new wire wire' status = (status ≡ 501) × (new ≡ None) × IsEmptied wire wire'
 IsPlainSent (Some p) (Some c) None wire wire' status = ⊥

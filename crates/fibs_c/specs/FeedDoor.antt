@@ -14,7 +14,7 @@ use Rattle.fibs_c.specs.Records.Kinds.{told_kind}
 use Rattle.fibs_c.specs.Records.Texts.{flag_of}
 use Rattle.fibs_c.specs.Records.Wires.{IsEmptied}
 use Rattle.fibs_c.specs.declared.feeding.Heard.{Heard}
-use Rattle.fibs_c.specs.declared.records.wire.Wire.{Wire}
+use Rattle.fibs_c.specs.declared.records.wire.WireRecord.{WireRecord}
 
 -- the decision alone
 abbrev pub decision_of_ask : Option Ask → Option DecisionValue
@@ -50,7 +50,7 @@ IsTold None h text text' = TellsNone h text text'
 IsTold (Some v) h text text' = TellsLine v h text text'
 
 -- what `Client::feed` does, and that C gets its answer
-pub record Feeds (old new : ClientValue) (piece : List ℕ) (h : Heard) (text text' : List ℕ) (wire wire' : Wire)
+pub record Feeds (old new : ClientValue) (piece : List ℕ) (h : Heard) (text text' : List ℕ) (wire wire' : WireRecord)
     : Type 0 where
   pub in_range : h.used ≤ length piece
   pub progress : 0 < length piece → 0 < h.used
@@ -60,13 +60,13 @@ pub record Feeds (old new : ClientValue) (piece : List ℕ) (h : Heard) (text te
   pub told : IsTold taken h text text'
 
 -- or nothing is written, and the wire is empty
-pub record FeedsNothing (h h' : Heard) (text text' : List ℕ) (wire wire' : Wire) : Type 0 where
+pub record FeedsNothing (h h' : Heard) (text text' : List ℕ) (wire wire' : WireRecord) : Type 0 where
   pub heard : h' ≡ h
   pub text_is : text' ≡ text
   pub emptied : IsEmptied wire wire'
 
-abbrev pub IsFedInRoom : Option ClientValue → Option ClientValue → List ℕ → Heard → Heard → List ℕ → List ℕ → Wire
-    → Wire → ℕ → Type 0
+abbrev pub IsFedInRoom : Option ClientValue → Option ClientValue → List ℕ → Heard → Heard → List ℕ → List ℕ → WireRecord
+    → WireRecord → ℕ → Type 0
 IsFedInRoom None new piece h h' text text' wire wire' status =
     (status ≡ 501) × (new ≡ None) × FeedsNothing h h' text text' wire wire'
 IsFedInRoom (Some c) None piece h h' text text' wire wire' status = ⊥
@@ -74,7 +74,7 @@ IsFedInRoom (Some c) (Some d) piece h h' text text' wire wire' status =
     (status ≡ 0) × Feeds c d piece h' text text' wire wire'
 
 -- the same if there is room for a line, and else nothing was done
-abbrev pub IsFed : Option ClientValue → Option ClientValue → List ℕ → Heard → Heard → List ℕ → List ℕ → Wire → Wire
+abbrev pub IsFed : Option ClientValue → Option ClientValue → List ℕ → Heard → Heard → List ℕ → List ℕ → WireRecord → WireRecord
     → ℕ → Type 0
 IsFed old new piece h h' text text' wire wire' status =
     ((length text < kept_limit) × (status ≡ 503) × (new ≡ old) × FeedsNothing h h' text text' wire wire')

@@ -17,7 +17,7 @@ use crate::records::status::{
     DONE, HELD, MEMORY, NO_BOARD, NO_COMMAND, NO_DECISION, NO_HANDLE, NOTHING_WAITS,
     plain_fault_status, plain_refusal_status, refusal_status,
 };
-use crate::records::wire::{Wire, clear, put_command};
+use crate::records::wire::{WireRecord, clear, put_command};
 use fibs_commands::read_plain;
 use fibs_session::{Client, CommandText, Login, PlainRefusal, Refusal};
 use std::alloc::Global;
@@ -57,7 +57,7 @@ pub extern "C" fn fibs_client_free(alloc: Global, client: &mut ClientHandle)
 }
 
 /// Hands out a command, or says why it does not.
-fn hand_out_command(wire: &mut Wire, answer: &Result<CommandText, Refusal>) -> u32
+fn hand_out_command(wire: &mut WireRecord, answer: &Result<CommandText, Refusal>) -> u32
     ensures wire { Holds wire.old wire.new (wire_of (handed answer.now)) }
     ensures refused { result ≢ 0 → IsEmptied wire.old wire.new }
     ensures status { result ≡ refusal_status (refusal_in answer.now) }
@@ -75,7 +75,7 @@ fn hand_out_command(wire: &mut Wire, answer: &Result<CommandText, Refusal>) -> u
 }
 
 /// The same for a plain command.
-fn hand_out_plain(wire: &mut Wire, answer: &Result<CommandText, PlainRefusal>) -> u32
+fn hand_out_plain(wire: &mut WireRecord, answer: &Result<CommandText, PlainRefusal>) -> u32
     ensures wire { Holds wire.old wire.new (wire_of (handed answer.now)) }
     ensures refused { result ≢ 0 → IsEmptied wire.old wire.new }
     ensures status { result ≡ plain_status (refusal_in answer.now) }
@@ -94,7 +94,7 @@ fn hand_out_plain(wire: &mut Wire, answer: &Result<CommandText, PlainRefusal>) -
 
 /// Opens a connection, and hands out the login command.
 #[unsafe(no_mangle)]
-pub extern "C" fn fibs_client_open(alloc: Global, client: &mut ClientHandle, wire: &mut Wire) -> u32
+pub extern "C" fn fibs_client_open(alloc: Global, client: &mut ClientHandle, wire: &mut WireRecord) -> u32
     ensures { IsOpened client.old.value client.new.value wire.old wire.new result }
 {
     clear(wire);
@@ -109,7 +109,7 @@ pub extern "C" fn fibs_client_decide(
     alloc: Global,
     client: &mut ClientHandle,
     decision: &DecisionRecord,
-    wire: &mut Wire,
+    wire: &mut WireRecord,
 ) -> u32
     ensures { IsDecided (decision_in decision.now) client.old.value client.new.value wire.old wire.new result }
 {
@@ -128,7 +128,7 @@ pub extern "C" fn fibs_client_plain(
     alloc: Global,
     client: &mut ClientHandle,
     text: &[u8],
-    wire: &mut Wire,
+    wire: &mut WireRecord,
 ) -> u32
     ensures { IsPlainSent (read_plain text.now) client.old.value client.new.value wire.old wire.new result }
 {

@@ -14,7 +14,7 @@ use crate::records::decisions::{DecisionRecord, decision_record, of_kind};
 use crate::records::kinds::LineKind;
 use crate::records::status::{DONE, NO_HANDLE, SHORT};
 use crate::records::text::{flag, put};
-use crate::records::wire::{Wire, clear, put_commands};
+use crate::records::wire::{WireRecord, clear, put_commands};
 use fibs_lines::LIMIT;
 use fibs_position::Decision;
 use fibs_session::{Client, Got, Outstanding, Taken};
@@ -66,7 +66,7 @@ fn maybe_record(decision: &Option<Decision>) -> DecisionRecord
 /// Each part is moved into a place of its own, and of a confirmed decision no board: while a part is lent from the
 /// answer, all of the answer is in memory, which costs more than reading the line.
 #[inline(always)]
-fn tell(used: usize, taken: Taken<'_>, text: &mut [u8], wire: &mut Wire) -> Heard
+fn tell(used: usize, taken: Taken<'_>, text: &mut [u8], wire: &mut WireRecord) -> Heard
     requires { kept_limit ≤ length text.old }
     ensures used { result.used ≡ used }
     ensures sends { Holds wire.old wire.new (wire_of (taken_of taken.entry).send) }
@@ -93,7 +93,7 @@ fn tell(used: usize, taken: Taken<'_>, text: &mut [u8], wire: &mut Wire) -> Hear
 }
 
 /// Hears a piece up to and with the next line end, and copies the line.
-fn hear(client: &mut Client, piece: &[u8], text: &mut [u8], wire: &mut Wire) -> Heard
+fn hear(client: &mut Client, piece: &[u8], text: &mut [u8], wire: &mut WireRecord) -> Heard
     requires { kept_limit ≤ length text.old }
     ensures { Feeds client.old client.new piece.now result text.old text.new wire.old wire.new }
 {
@@ -126,7 +126,7 @@ pub extern "C" fn fibs_client_feed(
     piece: &[u8],
     text: &mut [u8],
     heard: &mut Heard,
-    wire: &mut Wire,
+    wire: &mut WireRecord,
 ) -> u32
     ensures { IsFed client.old.value client.new.value piece.now heard.old heard.new text.old text.new wire.old wire.new
         result }

@@ -10,7 +10,7 @@ ghost use Rattle.fibs_c.specs.Records.Wires.{Holds, IsEmptied};
 
 use crate::records::ClientHandle;
 use crate::records::status::{DONE, NO_HANDLE, TAKEN, plain_fault_status, refusal_status};
-use crate::records::wire::{Wire, clear, put_line};
+use crate::records::wire::{WireRecord, clear, put_line};
 use fibs_commands::{PlainFault, plain_text};
 use fibs_session::typed::taking::would_take;
 use fibs_session::{Client, Plain, Refusal};
@@ -49,7 +49,7 @@ fn own_refusal(client: &Client, line: &[u8]) -> u32
 }
 
 /// Hands out a line if there is no status against it.
-fn hand_out_line(wire: &mut Wire, line: &[u8], status: u32)
+fn hand_out_line(wire: &mut WireRecord, line: &[u8], status: u32)
     requires { length line.now ≤ 400 }
     ensures sent { status ≡ 0 → Holds wire.old wire.new (on_wire line.now) }
     ensures kept { status ≢ 0 → IsEmptied wire.old wire.new }
@@ -67,7 +67,7 @@ pub extern "C" fn fibs_client_own_line(
     alloc: Global,
     client: &mut ClientHandle,
     line: &[u8],
-    wire: &mut Wire,
+    wire: &mut WireRecord,
 ) -> u32
     ensures { IsOwnSent (text_fault line.now) line.now client.old.value client.new.value wire.old wire.new result }
 {

@@ -4,7 +4,7 @@ ghost use Rattle.fibs_connect.specs.declared.fault.FrontFault.TheVariants.{Outpu
 ghost use Rattle.fibs_engine.specs.declared.fault.EngineFault.TheVariants.{Device};
 
 use fibs_engine::fault::EngineFault;
-use fibs_engine::writing::Broken;
+use fibs_engine::writing::Unwritten;
 use thiserror::Error;
 
 /// Why a front end stopped.
@@ -15,10 +15,10 @@ pub enum FrontFault {
     Output,
 }
 
-impl From<Broken> for FrontFault {
+impl From<Unwritten> for FrontFault {
     ghost from_gives = { λ _ e. e ≡ Output };
 
-    fn from(_broken: Broken) -> FrontFault {
+    fn from(_unwritten: Unwritten) -> FrontFault {
         FrontFault::Output
     }
 }

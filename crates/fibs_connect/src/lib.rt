@@ -31,7 +31,7 @@ pub mod words;
 use crate::typed_line::TypedLine;
 use crate::typed_lines::{Next, TypedLines};
 use crate::watch::{Unwatched, Watch};
-use fibs_engine::dial::{Dial, Place, READ_MILLIS, Server};
+use fibs_engine::dial::{Dial, Endpoint, READ_MILLIS, TcpDial};
 use fibs_engine::fault::EngineFault;
 use fibs_engine::limits::{MOST_INPUT_READS, READ_PORTION};
 use fibs_engine::status::Status;
@@ -72,12 +72,12 @@ pub fn converse<N: Net<Stream = TcpStream>, R: Read, W: Write, E: Write>(
         (W.contents out.old) (W.contents out.new) (E.contents err.old) (E.contents err.new) }
     ensures few { LostAtMost (MOST_INPUT_READS * READ_PORTION) (R.remaining typed.old) (R.remaining typed.new) }
 {
-    let place = Place {
+    let endpoint = Endpoint {
         host,
         port,
         quiet: Duration::from_millis(READ_MILLIS),
     };
-    let mut server = Server::new(rt, place);
+    let mut server = TcpDial::new(rt, endpoint);
     let (reads, watch) = (MOST_INPUT_READS, &mut Unwatched);
     converse_with(&mut server, alloc, name, reads, typed, watch, out, err)
 }

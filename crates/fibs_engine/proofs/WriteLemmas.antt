@@ -5,7 +5,7 @@ use Rattle.std.specs.Prelude.{◌==◌, ⊤}
 use Rattle.std.specs.Io.KnownBytes.{Appends, Keeps}
 use Rattle.std.proofs.KnownBytes.{Appends-trans, Appends-kept}
 use Rattle.fibs_engine.specs.Writing.{GainedFront, Progress, Whole, Broken, Wrote, progress_of}
-use Rattle.fibs_engine.specs.declared.writing.Broken as declared
+use Rattle.fibs_engine.specs.declared.writing.Unwritten as declared
 
 -- a front was written, and something is left
 left_over : (held now : Option (List ℕ)) (bytes front rest : List ℕ) → bytes ≡ front ++ rest
@@ -56,7 +56,7 @@ broke_after held mid now front part more whole cut wrote broke =
     (front_of_more mid now part more broke))
 
 -- what an error says
-pub wrote_front : (r : Result ⊤ declared.Broken) (held now : Option (List ℕ)) (bytes : List ℕ) → IsErr r
+pub wrote_front : (r : Result ⊤ declared.Unwritten) (held now : Option (List ℕ)) (bytes : List ℕ) → IsErr r
     → GainedFront held now bytes → Wrote (progress_of r) held now bytes
 wrote_front (Ok done) held now bytes failed front = cc
 wrote_front (Err why) held now bytes failed front = front

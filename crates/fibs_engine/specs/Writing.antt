@@ -1,14 +1,14 @@
 -- What a writer gained of the bytes that it was to take.
 use Rattle.std.specs.Prelude.{◌≡◌, ℕ, ⊤, List, ◌∷◌, ◌++◌, Option, Result, Ok, Err}
 use Rattle.std.specs.Io.KnownBytes.{Appends}
-use Rattle.fibs_engine.specs.declared.writing.Broken as declared
+use Rattle.fibs_engine.specs.declared.writing.Unwritten as declared
 
 -- how far writing went: all was written; or a write failed, or took nothing, before all was written
 pub data Progress : Type 0 where
   Whole : Progress
   Broken : Progress
 
-abbrev pub progress_of : Result ⊤ declared.Broken → Progress
+abbrev pub progress_of : Result ⊤ declared.Unwritten → Progress
 progress_of (Ok done) = Whole
 progress_of (Err why) = Broken
 

@@ -4,7 +4,7 @@ ghost use Rattle.std.specs.List.{list_any, position};
 ghost use Rattle.fibs_engine.specs.Escape.{is_escaped, escaped};
 ghost use Rattle.fibs_engine.specs.Writing.{Wrote, progress_of};
 
-use crate::writing::{Broken, write_bytes};
+use crate::writing::{Unwritten, write_bytes};
 use fibs_fields::hex::hex_escape;
 use std::alloc::{AllocError, Global};
 use std::io::Write;
@@ -64,7 +64,7 @@ fn after(bytes: &[u8], at: usize) -> &[u8]
 }
 
 /// Writes the bytes, each run of those that are shown as they are at once, and every other byte by its escape.
-pub fn write_escaped<W: Write>(bytes: &[u8], writer: &mut W) -> Result<(), Broken>
+pub fn write_escaped<W: Write>(bytes: &[u8], writer: &mut W) -> Result<(), Unwritten>
     ensures { Wrote (progress_of result) (W.contents writer.old) (W.contents writer.new) (escaped bytes.now) }
 {
     let mut rest = bytes;

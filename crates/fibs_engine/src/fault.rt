@@ -3,7 +3,7 @@ ghost use Rattle.std.specs.Prelude.{◌≡◌};
 ghost use Rattle.fibs_engine.specs.declared.fault.EngineFault.TheVariants.{Device, Memory};
 
 use crate::status::Status;
-use crate::writing::Broken;
+use crate::writing::Unwritten;
 use std::alloc::{AllocError, AllocFailed};
 use thiserror::Error;
 
@@ -31,10 +31,10 @@ impl EngineFault {
     }
 }
 
-impl From<Broken> for EngineFault {
+impl From<Unwritten> for EngineFault {
     ghost from_gives = { λ _ e. e ≡ Device };
 
-    fn from(_broken: Broken) -> EngineFault {
+    fn from(_unwritten: Unwritten) -> EngineFault {
         EngineFault::Device
     }
 }

@@ -2,7 +2,7 @@
 ghost use Rattle.std.specs.Prelude.{◌≡◌, ◌≤◌, length, None};
 
 use crate::fixed::append;
-use crate::writing::{Broken, write_bytes};
+use crate::writing::{Unwritten, write_bytes};
 use arrayvec::ArrayVec;
 use std::io;
 use std::io::{ErrorKind, Read, Write};
@@ -96,7 +96,7 @@ pub fn write_trouble<W: Write>(
     what: &[u8],
     trouble: Option<Trouble>,
     err: &mut W,
-) -> Result<(), Broken>
+) -> Result<(), Unwritten>
     requires { length what.now ≤ 32 }
 {
     let Some(trouble) = trouble else {

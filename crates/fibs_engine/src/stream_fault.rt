@@ -3,7 +3,7 @@ ghost use Rattle.std.specs.Prelude.{◌≡◌};
 ghost use Rattle.fibs_engine.specs.declared.stream_fault.StreamFault.TheVariants.{Memory, Writer};
 
 use crate::fault::EngineFault;
-use crate::writing::Broken;
+use crate::writing::Unwritten;
 use std::alloc::AllocError;
 
 /// Why a stream was not shown to its end.
@@ -34,10 +34,10 @@ impl StreamFault {
     }
 }
 
-impl From<Broken> for StreamFault {
+impl From<Unwritten> for StreamFault {
     ghost from_gives = { λ _ e. e ≡ Writer };
 
-    fn from(_broken: Broken) -> StreamFault {
+    fn from(_unwritten: Unwritten) -> StreamFault {
         StreamFault::Writer
     }
 }

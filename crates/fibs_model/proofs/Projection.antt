@@ -14,7 +14,7 @@ use Rattle.fibs_session.specs.History.Log.{Entry}
 use Rattle.fibs_session.specs.History.Log as L
 use Rattle.fibs_session.specs.History.Words.{is_empty, open_from, open_now, opened_by, connections, unconfirmed, answer}
 use Rattle.fibs_session.specs.History.Hearing.{Heard, heard, line_reading}
-use Rattle.fibs_session.specs.History.Machine.{Talk, Step, step, noted as talk_noted, does, stays, opened, loses, reads}
+use Rattle.fibs_session.specs.History.Machine.{Talk, Outcome, step, noted as talk_noted, does, stays, opened, loses, reads}
 use Rattle.fibs_session.specs.History.Machine.{with_bytes, hears_all as talk_hears_all, clicks_by, decides_on}
 use Rattle.fibs_session.specs.History.Machine.{sends_plain as talk_sends_plain, plain_refusal, gained, on_wire, wire_of}
 use Rattle.fibs_session.specs.History.Machine.{notes_if, order_refusal, withdraw_refusal}
@@ -117,7 +117,7 @@ asks_world w es c ts i e none same = stays_world w (asks (noted w es) c ts) es i
 
 -- a line that is heard
 
-record Heed (login : List ℕ) (w w' : World) (s : Step) : Type 0 where
+record Heed (login : List ℕ) (w w' : World) (s : Outcome) : Type 0 where
   world : IsWorld w'
   count : w'.count ≡ w.count
   talk : talk_of login w' ≡ s.talk
@@ -153,7 +153,7 @@ all_heed login (l ∷ ls) w c i o e =
           (talk_hears_all (talk_noted (talk_of login w) h.entries h.send) ls).send));
     })
   where
-    step_of : ℕ → Step
+    step_of : ℕ → Outcome
     step_of n = M.then_also (heard n w.log (line_reading l)).send
         (talk_hears_all (talk_noted (talk_of login w) (heard n w.log (line_reading l)).entries
         (heard n w.log (line_reading l)).send) ls)
@@ -173,7 +173,7 @@ abbrev Both : List ℕ → World → Event → Type 0
 Both login w e = IsWorld (after login w e) × Follows login w e (input_of w e)
 
 -- a step that is the world's
-record Fits (login : List ℕ) (w w' : World) (s : Step) : Type 0 where
+record Fits (login : List ℕ) (w w' : World) (s : Outcome) : Type 0 where
   world : IsWorld w'
   talk : talk_of login w' ≡ s.talk
   asked : (w'.links w'.count).asked ≡ (w.links w'.count).asked ++ wire_of s.send
@@ -264,13 +264,13 @@ opening login w i z =
     } in
     let f : Steps login w w' Open M.Open =
     record {
-      talk = tk ∙ ap (λ (s : Step). s.talk) (sym t);
+      talk = tk ∙ ap (λ (s : Outcome). s.talk) (sym t);
       asked = on_wire_now
-          ∙ ap (λ (s : Step). (w.links (w.count + 1)).asked ++ wire_of s.send) (sym t);
+          ∙ ap (λ (s : Outcome). (w.links (w.count + 1)).asked ++ wire_of s.send) (sym t);
     } in
     (world, f)
   where
-    step_if : Bool → Step
+    step_if : Bool → Outcome
     step_if b = if b then stays (talk_of login w) else record { talk = opened (talk_of login w); send = login ∷ [] }
 
 -- the client's machine goes along with bytes that are delivered
@@ -281,7 +281,7 @@ deliver login w n i some = let f =
     bytes : List ℕ
     bytes = take n (w.links w.count).coming
 
-    step_if : Bool → Step
+    step_if : Bool → Outcome
     step_if b = if b then talk_hears_all (with_bytes (talk_of login w) (take n (w.links w.count).coming))
         (gained (w.links w.count).heard (take n (w.links w.count).coming)) else stays (talk_of login w)
 
@@ -349,13 +349,13 @@ lose login w k i some =
     } in
     let f : Steps login w w' (Lose k) M.Lose =
     record {
-      talk = tk ∙ ap (λ (s : Step). s.talk) (sym t);
+      talk = tk ∙ ap (λ (s : Outcome). s.talk) (sym t);
       asked = on_wire_now ∙ sym (append-nil _)
-          ∙ ap (λ (s : Step). take k (w.links w.count).asked ++ wire_of s.send) (sym t);
+          ∙ ap (λ (s : Outcome). take k (w.links w.count).asked ++ wire_of s.send) (sym t);
     } in
     (world, f)
   where
-    step_if : Bool → Step
+    step_if : Bool → Outcome
     step_if b = if b then does (talk_of login w)
         (L.Lost (open_now w.log) (unconfirmed same_game (open_now w.log) w.log) ∷ []) [] else stays (talk_of login w)
 

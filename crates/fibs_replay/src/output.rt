@@ -11,7 +11,7 @@ use crate::limits::{ENTRY_LEN, LAST_LINE_LEN};
 use crate::log_lines::{Portion, append_entry};
 use arrayvec::ArrayVec;
 use fibs_engine::fixed::append;
-use fibs_engine::writing::{Broken, write_bytes};
+use fibs_engine::writing::{Unwritten, write_bytes};
 use fibs_model::{Entry, WorldRefusal};
 use itoa::Buffer;
 use std::io::Write;
@@ -57,7 +57,7 @@ pub fn refused_line(done: usize, why: WorldRefusal) -> LastLine
 }
 
 /// Makes room for so many bytes more: if there is less, the text is written.
-fn make_room<W: Write>(text: &mut Portion, room: usize, writer: &mut W) -> Result<(), Broken>
+fn make_room<W: Write>(text: &mut Portion, room: usize, writer: &mut W) -> Result<(), Unwritten>
     requires { room ≤ write_len }
     ensures { MadeRoom (progress_of result) room (W.contents writer.old) (W.contents writer.new)
         text.old.items text.new.items }
@@ -70,7 +70,7 @@ fn make_room<W: Write>(text: &mut Portion, room: usize, writer: &mut W) -> Resul
 }
 
 /// Writes the line of each entry, in portions, and then a last line. After a failed write it makes no other.
-pub fn print_log<W: Write>(entries: &[Entry], last: &[u8], writer: &mut W) -> Result<(), Broken>
+pub fn print_log<W: Write>(entries: &[Entry], last: &[u8], writer: &mut W) -> Result<(), Unwritten>
     requires { length last.now ≤ write_len }
     ensures { Wrote (progress_of result) (W.contents writer.old) (W.contents writer.new)
         (log_text (map entry_of entries.now) ++ last.now) }

@@ -1,7 +1,7 @@
 //! What a terminal shows of what the server sends.
 
 use crate::drawing::Watching;
-use crate::people::Asked;
+use crate::people::ListAsked;
 use crate::screen::{Moment, Screen};
 use crate::talk::Talk;
 use fibs_advice::row::Row;
@@ -188,7 +188,7 @@ impl<'a> Screen<'a> {
         match message {
             Message::Welcome { .. } => {
                 self.memory.situation.hear_welcome();
-                self.memory.list.asked = Asked::Everybody;
+                self.memory.list.asked = ListAsked::Everybody;
             }
             Message::Login { name, .. } => self.memory.situation.hear_login(name.bytes()),
             Message::MotdBegin => self.memory.situation.hear_motd(true),

@@ -117,7 +117,7 @@ impl People {
 
 /// What list of players was asked for that has not come.
 #[derive(Clone, Copy, Debug, PartialEq, Eq)]
-pub enum Asked {
+pub enum ListAsked {
     /// None.
     Nothing,
     /// That of all players: of a login, or of `who`.
@@ -130,7 +130,7 @@ pub enum Asked {
 #[derive(Drop)]
 pub struct List {
     /// What was asked for.
-    pub asked: Asked,
+    pub asked: ListAsked,
     /// How many players were listed since the last list ended.
     count: usize,
     /// The row of the last of them.
@@ -141,7 +141,7 @@ impl List {
     /// Nobody was listed.
     pub fn new(alloc: Global) -> List {
         List {
-            asked: Asked::Nothing,
+            asked: ListAsked::Nothing,
             count: 0,
             last: Vec::new(alloc),
         }
@@ -149,14 +149,14 @@ impl List {
 
     /// Nobody was listed on this connection.
     pub fn forget(&mut self) {
-        self.asked = Asked::Nothing;
+        self.asked = ListAsked::Nothing;
         self.count = 0;
     }
 
     /// The user has sent a line as it is.
     pub fn hear_passed(&mut self, line: &[u8]) {
         if split(line, b' ').0 == b"who".as_slice() {
-            self.asked = Asked::Some;
+            self.asked = ListAsked::Some;
         }
     }
 
@@ -172,13 +172,13 @@ impl List {
     pub fn hear_end(&mut self, is_quiet: bool, page: &mut Page<'_>) -> Result<(), AllocError> {
         let (count, asked) = (self.count, self.asked);
         self.count = 0;
-        if asked != Asked::Everybody || count > 1 {
-            self.asked = Asked::Nothing;
+        if asked != ListAsked::Everybody || count > 1 {
+            self.asked = ListAsked::Nothing;
         }
-        if count > 1 && asked != Asked::Nothing {
+        if count > 1 && asked != ListAsked::Nothing {
             append_count(count, &mut page.text)?;
             page.say(b": type players\n")
-        } else if count == 1 && (!is_quiet || asked == Asked::Some) {
+        } else if count == 1 && (!is_quiet || asked == ListAsked::Some) {
             page.say(self.last.as_slice())?;
             page.say(b"\n")
         } else {

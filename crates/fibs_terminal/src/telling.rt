@@ -2,7 +2,7 @@
 ghost use Rattle.std.specs.Prelude.{◌≡◌};
 
 use crate::drawing::Watching;
-use crate::people::Asked;
+use crate::people::ListAsked;
 use crate::screen::{Moment, Screen};
 use fibs_advice::plays::Listing;
 use fibs_connect::said::Said;
@@ -140,7 +140,7 @@ impl<'a> Screen<'a> {
         if bytes == b"board".as_slice() {
             self.memory.boards.asked = true;
         } else if bytes == b"who".as_slice() {
-            self.memory.list.asked = Asked::Everybody;
+            self.memory.list.asked = ListAsked::Everybody;
         }
         self.page.say_all(&[b"sent ", bytes, b"\n"])
     }

@@ -16,4 +16,4 @@ pub use config::{Config, Setting, read_setting};
 pub use environment::terminal_settings;
 pub use page::Page;
 pub use settings::Settings;
-pub use zone::{Place, Zone};
+pub use zone::{Clocks, Zone};

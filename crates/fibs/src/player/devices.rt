@@ -20,7 +20,7 @@ use fibs_fields::boards::Board;
 use fibs_position::GameBoard;
 use fibs_terminal::Terminal;
 use fibs_terminal::drawing::append_picture;
-use fibs_wording::environment::{Config, Place as Clocks, Settings, terminal_settings};
+use fibs_wording::environment::{Clocks, Config, Settings, terminal_settings};
 use mio::Poll;
 use std::fs::File;
 use std::io;

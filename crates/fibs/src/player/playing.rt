@@ -8,7 +8,7 @@ use fibs_connect::typed_lines::TypedLines;
 use fibs_connect::watch::Watch;
 use fibs_connect::{answer_lines, converse_on, converse_with};
 use fibs_engine::attention::Pace;
-use fibs_engine::dial::{Dial, Place, Server};
+use fibs_engine::dial::{Dial, Endpoint, TcpDial};
 use fibs_engine::fault::EngineFault;
 use fibs_engine::limits::MOST_INPUT_READS;
 use fibs_engine::logging::{LoggedServer, open};
@@ -18,7 +18,7 @@ use fibs_engine::status::Status;
 use fibs_engine::writing::write_bytes;
 use fibs_session::{Login, PlainFault};
 use fibs_terminal::Terminal;
-use fibs_wording::environment::{Config, Place as Clocks, terminal_settings};
+use fibs_wording::environment::{Clocks, Config, terminal_settings};
 use fibs_wording::reasons::append_login_fault;
 use std::alloc::Global;
 use std::cell::Cell;
@@ -27,8 +27,8 @@ use std::net::{Net, TcpListener, TcpStream};
 use std::time::{Clock, Duration};
 
 /// Where the server of a call is; each read of it waits so many milliseconds.
-fn place_of(call: Call<'_>, millis: u64) -> Place<'_> {
-    Place {
+fn endpoint_of(call: Call<'_>, millis: u64) -> Endpoint<'_> {
+    Endpoint {
         host: call.host,
         port: call.port,
         quiet: Duration::from_millis(millis),
@@ -208,7 +208,7 @@ pub fn play<N: Net<Listener = TcpListener, Stream = TcpStream>, R: Read, V: Watc
         let _said = write_bytes(NO_LOG, &mut rt.stderr());
         return Ok(Status::Device.code());
     }
-    let mut server = Server::new(net, place_of(call, pace.millis));
+    let mut server = TcpDial::new(net, endpoint_of(call, pace.millis));
     if rt.stdout().is_terminal() && !call.json {
         let mut paced = PacedServer::new(server, pace);
         if call.log.is_none() {

@@ -1,7 +1,7 @@
 //! The standard streams of the program, which keep why they failed.
 
 use fibs_engine::noting::{Noted, Trouble, write_trouble};
-use fibs_engine::writing::Broken;
+use fibs_engine::writing::Unwritten;
 use std::io::{Stdin, Stdout, Write};
 
 /// The standard input and the standard output.
@@ -29,7 +29,7 @@ impl Streams {
     }
 
     /// Says which of them failed and why, if one did.
-    pub fn say_trouble<E: Write>(&self, err: &mut E) -> Result<(), Broken> {
+    pub fn say_trouble<E: Write>(&self, err: &mut E) -> Result<(), Unwritten> {
         match self.out.trouble() {
             None => write_trouble(b"standard input", self.input.trouble(), err),
             trouble => write_trouble(b"standard output", trouble, err),

@@ -13,7 +13,7 @@ use fibs_session::{AnswerText, CommandText};
 /// What is to be sent, at once: some commands, each with CR LF.
 #[repr(C)]
 #[derive(Clone, Copy)]
-pub struct Wire {
+pub struct WireRecord {
     /// How many bytes it has.
     pub len: usize,
     /// At most three commands.
@@ -21,14 +21,14 @@ pub struct Wire {
 }
 
 /// Makes it hold nothing.
-pub fn clear(wire: &mut Wire)
+pub fn clear(wire: &mut WireRecord)
     ensures { IsEmptied wire.old wire.new }
 {
     wire.len = 0;
 }
 
 /// Appends bytes for which there is room.
-fn append(wire: &mut Wire, bytes: &[u8])
+fn append(wire: &mut WireRecord, bytes: &[u8])
     requires { wire.old.len + length bytes.now ≤ 1542 }
     ensures appended { wire_in wire.new ≡ wire_in wire.old ++ bytes.now }
     ensures len { wire.new.len ≡ wire.old.len + length bytes.now }
@@ -41,7 +41,7 @@ fn append(wire: &mut Wire, bytes: &[u8])
 
 /// Appends a line with its line end.
 #[tactic(auto, using(crate::proofs::WireLemmas::rest_joined))]
-fn append_line(wire: &mut Wire, line: &[u8])
+fn append_line(wire: &mut WireRecord, line: &[u8])
     requires { wire.old.len + length line.now + 2 ≤ 1542 }
     ensures appended { wire_in wire.new ≡ wire_in wire.old ++ on_wire line.now }
     ensures len { wire.new.len ≡ wire.old.len + length (on_wire line.now) }
@@ -53,7 +53,7 @@ fn append_line(wire: &mut Wire, line: &[u8])
 }
 
 /// Appends a command with its line end.
-fn append_command<const N: usize>(wire: &mut Wire, command: &ArrayString<N>)
+fn append_command<const N: usize>(wire: &mut WireRecord, command: &ArrayString<N>)
     requires room { wire.old.len + 514 ≤ 1542 }
     requires short { N ≤ 512 }
     ensures appended { wire_in wire.new ≡ wire_in wire.old ++ on_wire (text_of command.now) }
@@ -66,7 +66,7 @@ fn append_command<const N: usize>(wire: &mut Wire, command: &ArrayString<N>)
 
 /// Makes it hold these commands.
 #[tactic(auto, using(crate::proofs::WireLemmas::rest_joined, crate::proofs::WireLemmas::rest_of_emptied))]
-pub fn put_commands(wire: &mut Wire, commands: &[AnswerText])
+pub fn put_commands(wire: &mut WireRecord, commands: &[AnswerText])
     requires { length commands.now ≤ 3 }
     ensures { Holds wire.old wire.new (wire_of (texts_of commands.now)) }
 {
@@ -78,7 +78,7 @@ pub fn put_commands(wire: &mut Wire, commands: &[AnswerText])
 
 /// Makes it hold this command.
 #[tactic(auto, using(crate::proofs::WireLemmas::rest_joined, crate::proofs::WireLemmas::rest_of_emptied))]
-pub fn put_command(wire: &mut Wire, command: &CommandText)
+pub fn put_command(wire: &mut WireRecord, command: &CommandText)
     ensures { Holds wire.old wire.new (wire_of (text_of command.now ∷ [])) }
 {
     clear(wire);
@@ -87,7 +87,7 @@ pub fn put_command(wire: &mut Wire, command: &CommandText)
 
 /// Makes it hold a line that is sent as it is, with its line end.
 #[tactic(auto, using(crate::proofs::WireLemmas::rest_joined, crate::proofs::WireLemmas::rest_of_emptied))]
-pub fn put_line(wire: &mut Wire, line: &[u8])
+pub fn put_line(wire: &mut WireRecord, line: &[u8])
     requires { length line.now ≤ 512 }
     ensures { Holds wire.old wire.new (on_wire line.now) }
 {

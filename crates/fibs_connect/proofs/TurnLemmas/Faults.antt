@@ -2,7 +2,7 @@
 use Rattle.std.proofs.Common.{◌≡◌, List, ◌++◌, Result, Ok, Err}
 use Rattle.std.specs.Prelude.{⊤, IsErrAnd}
 use Rattle.fibs_engine.specs.Writing.{Progress, Whole, Broken, progress_of}
-use Rattle.fibs_engine.specs.declared.writing.Broken as declared
+use Rattle.fibs_engine.specs.declared.writing.Unwritten as declared
 use Rattle.fibs_connect.specs.declared.turns.turn_fault.TurnFault.{TurnFault}
 use Rattle.fibs_connect.specs.declared.turns.turn_fault.TurnFault.TheVariants.{Stream, Output}
 use Rattle.fibs_connect.specs.Told.{SaidValue, Joins}
@@ -12,7 +12,7 @@ use Rattle.fibs_connect.specs.Turns.Answering.{Goes}
 use Rattle.fibs_connect.proofs.TurnLemmas.Scripts.{did_joined, did_hushed}
 
 -- after a failed write the answer says so
-pub broken_on : (Holds : Progress → Type 0) (r : Result ⊤ declared.Broken) (v : declared.Broken)
+pub broken_on : (Holds : Progress → Type 0) (r : Result ⊤ declared.Unwritten) (v : declared.Unwritten)
     → IsErrAnd r (λ e. e ≡ v) → Holds Broken → Holds (progress_of r)
 broken_on Holds (Ok x) v h p = absurd h
 broken_on Holds (Err e) v h p = p

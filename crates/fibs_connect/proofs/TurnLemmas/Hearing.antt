@@ -9,7 +9,7 @@ use Rattle.fibs_lines.specs.StreamLaws.{LinesOnlyGrow}
 use Rattle.fibs_session.specs.History.Log.{Entry}
 use Rattle.fibs_session.specs.History.Words.{open_now}
 use Rattle.fibs_session.specs.History.Hearing.{Heard, heard, nothing_heard, line_reading}
-use Rattle.fibs_session.specs.History.Machine.{Talk, Step, Piece, step, stays, is_online, hears, hears_all}
+use Rattle.fibs_session.specs.History.Machine.{Talk, Outcome, Piece, step, stays, is_online, hears, hears_all}
 use Rattle.fibs_session.specs.History.Machine.{heard_by, with_bytes, gained}
 use Rattle.fibs_session.specs.Calls.Standing.{ClientValue, StandsAfter}
 use Rattle.fibs_session.specs.Calls.Feeding.{FeedAnswers, Gains, in_list}
@@ -49,7 +49,7 @@ abbrev acts_if : Bool → Talk → List ℕ → List Act
 acts_if b t bytes = if b then line_acts t.log (gained t.stream bytes) else []
 
 -- what a piece does, if the client is online as said
-abbrev reads_if : Bool → Talk → List ℕ → Step
+abbrev reads_if : Bool → Talk → List ℕ → Outcome
 reads_if b t bytes = if b then hears_all (with_bytes t bytes) (gained t.stream bytes) else stays t
 
 -- online a piece calls for the acts of the lines that it gives

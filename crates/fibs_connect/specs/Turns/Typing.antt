@@ -1,7 +1,7 @@
 -- What is done for a line that the user types.
 use Rattle.std.specs.Prelude.{ℕ, List, [], ◌∷◌, Option, Some, None, option_map}
 use Rattle.fibs_session.specs.declared.histories.refusal.Refusal.{Refusal}
-use Rattle.fibs_session.specs.History.Machine.{Talk, Step, Click, PlainInput, step, stays, answer_now}
+use Rattle.fibs_session.specs.History.Machine.{Talk, Outcome, Click, PlainInput, step, stays, answer_now}
 use Rattle.fibs_session.specs.History.Machine.{plain_refusal, Order, Withdraw, order_refusal, withdraw_refusal}
 use Rattle.fibs_connect.specs.Told.{SaidValue, ordered_said, withdrawn_said, refused_said, not_sent_said}
 use Rattle.fibs_connect.specs.Told.{unknown_said}
@@ -16,7 +16,7 @@ order_told said None = said
 order_told said (Some why) = refused_said why
 
 -- what the client does with it
-abbrev pub typed_step : Talk → TypedValue → Step
+abbrev pub typed_step : Talk → TypedValue → Outcome
 typed_step t (typed_decision d) = step t (Click d)
 typed_step t (typed_plain p) = step t (PlainInput p)
 typed_step t typed_order = step t Order

@@ -11,7 +11,7 @@ use crate::typed_line::TYPED_LIMIT;
 use arrayvec::{ArrayString, ArrayVec};
 use fibs_engine::fixed::append;
 use fibs_engine::link::{Link, send_bytes};
-use fibs_engine::writing::Broken;
+use fibs_engine::writing::Unwritten;
 use fibs_session::AnswerText;
 
 /// A command of at most 512 bytes and its line end.
@@ -38,7 +38,7 @@ fn wire_line<const N: usize>(command: &ArrayString<N>) -> WireLine
 pub fn send_command<S: Link, const N: usize>(
     command: &ArrayString<N>,
     stream: &mut S,
-) -> Result<(), Broken>
+) -> Result<(), Unwritten>
     requires { N ≤ 512 }
     ensures wrote { Wrote (progress_of result) (S.contents stream.old) (S.contents stream.new)
         (on_wire (text_of command.now)) }
@@ -48,7 +48,7 @@ pub fn send_command<S: Link, const N: usize>(
 }
 
 /// Writes the commands in order.
-pub(crate) fn send_commands<S: Link>(commands: &[AnswerText], stream: &mut S) -> Result<(), Broken>
+pub(crate) fn send_commands<S: Link>(commands: &[AnswerText], stream: &mut S) -> Result<(), Unwritten>
     ensures wrote { Wrote (progress_of result) (S.contents stream.old) (S.contents stream.new)
         (wire_of (texts_of commands.now)) }
     ensures apart { Keeps (S.remaining stream.old) (S.remaining stream.new) }
@@ -60,7 +60,7 @@ pub(crate) fn send_commands<S: Link>(commands: &[AnswerText], stream: &mut S) ->
 }
 
 /// Writes a line past the client, and its line end, by one write if the stream takes all of it.
-pub fn send_as_it_is<S: Link>(line: &[u8], stream: &mut S) -> Result<(), Broken>
+pub fn send_as_it_is<S: Link>(line: &[u8], stream: &mut S) -> Result<(), Unwritten>
     requires { length line.now ≤ TYPED_LIMIT }
     ensures wrote { Wrote (progress_of result) (S.contents stream.old) (S.contents stream.new) (on_wire line.now) }
     ensures apart { Keeps (S.remaining stream.old) (S.remaining stream.new) }

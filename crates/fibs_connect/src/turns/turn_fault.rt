@@ -3,7 +3,7 @@ ghost use Rattle.std.specs.Prelude.{◌≡◌};
 ghost use Rattle.fibs_connect.specs.declared.turns.turn_fault.TurnFault.TheVariants.{Stream, Output};
 
 use crate::turns::ExchangeFault;
-use fibs_engine::writing::Broken;
+use fibs_engine::writing::Unwritten;
 
 /// Which side failed.
 #[derive(Clone, Copy)]
@@ -14,10 +14,10 @@ pub(crate) enum TurnFault {
     Output,
 }
 
-impl From<Broken> for TurnFault {
+impl From<Unwritten> for TurnFault {
     ghost from_gives = { λ _ e. e ≡ Stream };
 
-    fn from(_broken: Broken) -> TurnFault {
+    fn from(_unwritten: Unwritten) -> TurnFault {
         TurnFault::Stream
     }
 }

@@ -27,7 +27,7 @@ pub trait Dial {
 
 /// Where a server is, and how long it is listened to.
 #[derive(Clone, Copy)]
-pub struct Place<'a> {
+pub struct Endpoint<'a> {
     /// Its name or address.
     pub host: &'a str,
     /// Its port.
@@ -36,27 +36,27 @@ pub struct Place<'a> {
     pub quiet: Duration,
 }
 
-/// A server at a place.
+/// What dials a server over TCP.
 #[derive(Drop)]
-pub struct Server<'a, N: Net<Stream = TcpStream>> {
+pub struct TcpDial<'a, N: Net<Stream = TcpStream>> {
     net: &'a N,
-    place: Place<'a>,
+    endpoint: Endpoint<'a>,
 }
 
-impl<'a, N: Net<Stream = TcpStream>> Server<'a, N> {
-    /// The server at a place, over a net.
-    pub fn new(net: &'a N, place: Place<'a>) -> Server<'a, N> {
-        Server { net, place }
+impl<'a, N: Net<Stream = TcpStream>> TcpDial<'a, N> {
+    /// What dials this server, over a net.
+    pub fn new(net: &'a N, endpoint: Endpoint<'a>) -> TcpDial<'a, N> {
+        TcpDial { net, endpoint }
     }
 }
 
-impl<N: Net<Stream = TcpStream>> Dial for Server<'_, N> {
+impl<N: Net<Stream = TcpStream>> Dial for TcpDial<'_, N> {
     type Stream = TcpStream;
 
     /// A socket to the first of the host's addresses that answers. If none does, why the last does not; `NotFound` if
     /// it has none.
     fn dial(&mut self) -> Result<TcpStream, ErrorKind> {
-        let Place { host, port, quiet } = self.place;
+        let Endpoint { host, port, quiet } = self.endpoint;
         let addresses = match (host, port).to_socket_addrs(self.net) {
             Ok(addresses) => addresses,
             Err(error) => return Err(lookup_failure(error.kind())),

@@ -6,7 +6,7 @@ ghost use Rattle.std.specs.Io.KnownBytes.{Keeps, ReadConsumes, WriteAppends};
 ghost use Rattle.fibs_engine.specs.Writing.{Wrote, progress_of};
 
 use crate::retrying::{read_retrying, write_retrying};
-use crate::writing::Broken;
+use crate::writing::Unwritten;
 use std::io;
 use std::io::{ErrorKind, Read, Write};
 use std::net::TcpStream;
@@ -49,16 +49,16 @@ pub fn is_quiet(error: &io::Error) -> bool
 
 /// Writes the bytes in order, as `write_bytes` does on a writer. What is left to read stays, which `write` alone does
 /// not say.
-pub fn send_bytes<S: Link>(bytes: &[u8], stream: &mut S) -> Result<(), Broken>
+pub fn send_bytes<S: Link>(bytes: &[u8], stream: &mut S) -> Result<(), Unwritten>
     ensures wrote { Wrote (progress_of result) (S.contents stream.old) (S.contents stream.new) bytes.now }
     ensures apart { Keeps (S.remaining stream.old) (S.remaining stream.new) }
 {
     let mut rest = bytes;
     while !rest.is_empty() {
         match stream.transmit(rest) {
-            Ok(0) => return Err(Broken),
+            Ok(0) => return Err(Unwritten),
             Ok(count) => rest = &rest[count..],
-            Err(_) => return Err(Broken),
+            Err(_) => return Err(Unwritten),
         }
     }
     Ok(())

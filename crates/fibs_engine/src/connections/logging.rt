@@ -3,7 +3,7 @@
 use crate::dial::Dial;
 use crate::link::Link;
 use crate::noting::{Noted, Trouble, write_trouble};
-use crate::writing::{Broken, write_bytes};
+use crate::writing::{Unwritten, write_bytes};
 use arrayvec::ArrayVec;
 use fibs_lines::Lines;
 use std::fs::{File, OpenOptions};
@@ -120,7 +120,7 @@ impl<S: Link + Drop, W: Write + Drop, E: Write + Drop> Logged<S, W, E> {
 }
 
 /// Writes a line with each byte 255 twice, as telnet sends it, since one alone begins a command.
-fn write_doubled<W: Write>(line: &[u8], log: &mut W) -> Result<(), Broken> {
+fn write_doubled<W: Write>(line: &[u8], log: &mut W) -> Result<(), Unwritten> {
     let mut is_first = true;
     for piece in line.split(|byte| *byte == 255) {
         if !is_first {
@@ -133,7 +133,7 @@ fn write_doubled<W: Write>(line: &[u8], log: &mut W) -> Result<(), Broken> {
 }
 
 /// Appends a line to a log.
-fn append<W: Write>(mark: &[u8], line: &[u8], log: &mut W) -> Result<(), Broken> {
+fn append<W: Write>(mark: &[u8], line: &[u8], log: &mut W) -> Result<(), Unwritten> {
     write_bytes(mark, log)?;
     write_doubled(line, log)?;
     write_bytes(b"\n", log)

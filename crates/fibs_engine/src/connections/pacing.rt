@@ -4,7 +4,7 @@ ghost use Rattle.std.specs.Prelude.{◌≤◌, length, IfSome};
 ghost use Rattle.std.specs.Io.{ReadsAtMost};
 
 use crate::attention::{Attention, Pace};
-use crate::dial::{Dial, Server};
+use crate::dial::{Dial, TcpDial};
 use crate::limits::READ_PORTION;
 use crate::link::{Link, is_quiet};
 use arrayvec::ArrayVec;
@@ -213,13 +213,13 @@ impl<S: Link + Drop> Link for Paced<S> {
 /// A server whose connections are paced.
 #[derive(Drop)]
 pub struct PacedServer<'a, N: Net<Stream = TcpStream>> {
-    server: Server<'a, N>,
+    server: TcpDial<'a, N>,
     pace: Pace,
 }
 
 impl<'a, N: Net<Stream = TcpStream>> PacedServer<'a, N> {
     /// The same server, which is read at this pace.
-    pub fn new(server: Server<'a, N>, pace: Pace) -> PacedServer<'a, N> {
+    pub fn new(server: TcpDial<'a, N>, pace: Pace) -> PacedServer<'a, N> {
         PacedServer { server, pace }
     }
 }

@@ -18,7 +18,7 @@ use Rattle.fibs_session.specs.Calls.SessionOf.{TakenValue}
 use Rattle.fibs_session.specs.Calls.Standing.{ClientValue, StandsAfter}
 use Rattle.fibs_session.specs.History.Hearing.{heard, nothing_heard, line_reading}
 use Rattle.fibs_session.specs.History.Log.{Entry}
-use Rattle.fibs_session.specs.History.Machine.{Talk, Step, Piece, step, is_online, stays, noted, with_bytes, gained}
+use Rattle.fibs_session.specs.History.Machine.{Talk, Outcome, Piece, step, is_online, stays, noted, with_bytes, gained}
 use Rattle.fibs_session.specs.History.Machine.{hears_all, heard_by, on_wire, wire_of, ordered_now}
 use Rattle.fibs_session.specs.History.MachineLaws.{PiecesJoin, EmptyPieceIsNothing}
 use Rattle.fibs_session.specs.History.Owing.{owed_on, owed, entries_owed, lines_in}
@@ -34,7 +34,7 @@ online : (t : Talk) (conn : ℕ) → 0 < conn → open_now t.log ≡ conn → is
 online t conn some h = ap not (other_number (open_now t.log) 0 (λ e. absurd (omega (arith, some, h, e))))
 
 -- what reading gives online
-abbrev step_of : Talk → List ℕ → Bool → Step
+abbrev step_of : Talk → List ℕ → Bool → Outcome
 step_of t p b = if b then hears_all (with_bytes t p) (gained t.stream p) else stays t
 
 -- online a piece is heard as the lines that it gives
@@ -50,7 +50,7 @@ gains_lines s p ls e = ap (drop (length (lines_of s))) e ∙ drop-append_seam (l
 no_line : (t : Talk) (conn : ℕ) (p : List ℕ) → 0 < conn → open_now t.log ≡ conn
     → lines_of (t.stream ++ p) ≡ lines_of t.stream ++ [] → (step t (Piece p)).talk.log ≡ t.log
 unfolding hears_all
-no_line t conn p some h e = ap (λ (s : Step). s.talk.log)
+no_line t conn p some h e = ap (λ (s : Outcome). s.talk.log)
     (reads_lines t p [] (online t conn some h) (gains_lines t.stream p [] e))
 
 -- one line
@@ -59,7 +59,7 @@ one_line : (t : Talk) (conn : ℕ) (p : List ℕ) (l : ReadLine) → 0 < conn �
     → (step t (Piece p)).talk.log ≡ t.log ++ (heard conn t.log (line_reading l)).entries
 unfolding hears_all
 one_line t conn p l some h e =
-    ap (λ (s : Step). s.talk.log) (reads_lines t p (l ∷ []) (online t conn some h) (gains_lines t.stream p (l ∷ []) e))
+    ap (λ (s : Outcome). s.talk.log) (reads_lines t p (l ∷ []) (online t conn some h) (gains_lines t.stream p (l ∷ []) e))
     ∙ ap (λ n. t.log ++ (heard n t.log (line_reading l)).entries) h
 
 -- reading a piece leaves the open connection
@@ -277,13 +277,13 @@ hears_nothing law c conn log wire = record {
   writes = record {
     send = [];
     does = record {
-      stands = λ t h. subst (λ (s : Step). StandsAfter c s.talk) (sym (law t)) h;
+      stands = λ t h. subst (λ (s : Outcome). StandsAfter c s.talk) (sym (law t)) h;
       hands =
-          λ t h. ap (λ (s : Step). s.send) (sym (law t));
+          λ t h. ap (λ (s : Outcome). s.send) (sym (law t));
     };
     written = sym (append-nil wire);
   };
-  noted = λ t h same. same ∙ ap (λ (s : Step). s.talk.log) (sym (law t));
+  noted = λ t h same. same ∙ ap (λ (s : Outcome). s.talk.log) (sym (law t));
 }
 
 -- a piece that is heard in two parts is heard
@@ -294,11 +294,11 @@ hears_joined law a b c conn p q l0 l1 l2 x y z f g = record {
   writes = record {
     send = f.writes.send ++ g.writes.send;
     does = record {
-      stands = λ t h. subst (λ (s : Step). StandsAfter c s.talk) (sym (law t p q))
+      stands = λ t h. subst (λ (s : Outcome). StandsAfter c s.talk) (sym (law t p q))
           (g.writes.does.stands _ (f.writes.does.stands t h));
       hands = λ t h. ap (λ l. l ++ g.writes.send) (f.writes.does.hands t h)
           ∙ ap (λ l. (step t (Piece p)).send ++ l) (g.writes.does.hands _ (f.writes.does.stands t h))
-          ∙ ap (λ (s : Step). s.send) (sym (law t p q));
+          ∙ ap (λ (s : Outcome). s.send) (sym (law t p q));
     };
     written = g.writes.written ∙ ap (λ l. l ++ wire_of g.writes.send) f.writes.written
         ∙ append_assoc x (wire_of f.writes.send) (wire_of g.writes.send)
@@ -306,7 +306,7 @@ hears_joined law a b c conn p q l0 l1 l2 x y z f g = record {
   };
   noted = λ t h same.
       g.noted (step t (Piece p)).talk (still_talking a b conn p f.writes.send t f.writes.does h) (f.noted t h same)
-      ∙ ap (λ (s : Step). s.talk.log) (sym (law t p q));
+      ∙ ap (λ (s : Outcome). s.talk.log) (sym (law t p q));
 }
 
 -- `&rest[used..]`

@@ -5,7 +5,7 @@ use Rattle.std.proofs.lemmas.List.{length-append, map_push}
 use Rattle.fibs_model.specs.declared.world.link.Link as C
 use Rattle.fibs_session.specs.History.Log as L
 use Rattle.fibs_session.specs.History.Words.{open_now}
-use Rattle.fibs_session.specs.History.Machine.{Step, stays, opened, on_wire}
+use Rattle.fibs_session.specs.History.Machine.{Outcome, stays, opened, on_wire}
 use Rattle.fibs_session.specs.History.Machine as M
 use Rattle.fibs_session.specs.Calls.ClientLaws.{ServersEntriesAreSilent}
 use Rattle.fibs_session.specs.Calls.Doing.{Does}
@@ -43,7 +43,7 @@ module _ (law : ServersEntriesAreSilent) (v v' : WorldValue) (text : List ℕ)
     is_login login w s offline = first text login
         (does.hands (talk_of login w) s.client ∙ ap (λ b. (step_if (not b)).send) offline)
       where
-        step_if : Bool → Step
+        step_if : Bool → Outcome
         step_if b = if b then stays (talk_of login w) else record { talk = opened (talk_of login w); send = login ∷ [] }
 
     -- the world after it

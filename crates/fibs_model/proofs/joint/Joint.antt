@@ -66,7 +66,7 @@ pub record Done (v : Logged) (now : Board) (ws : List Board) : Type 0 where
   pub calm : Calm now (next ∷ later)
 
 -- what was sent in this stretch was not served
-pub record Asked (v : Logged) (now : Board) (ws : List Board) (a : Ask) : Type 0 where
+pub record Unserved (v : Logged) (now : Board) (ws : List Board) (a : Ask) : Type 0 where
   pub spent : v.spent ≡ true
   pub is_last : last v.seen ≡ Some a.0
   pub calm : Calm now (a.0 ∷ ws)
@@ -74,7 +74,7 @@ pub record Asked (v : Logged) (now : Board) (ws : List Board) (a : Ask) : Type 0
 -- if nothing waits to be served, nothing was sent in this stretch, or its effect is on its way
 abbrev pub Live : Logged → Board → List Board → Option Ask → Type 0
 Live v now ws None = Free v now ws ⊎ Done v now ws
-Live v now ws (Some a) = Asked v now ws a
+Live v now ws (Some a) = Unserved v now ws a
 
 -- what was not served is on the server's board
 abbrev pub Held : Board → Option Ask → Type 0

@@ -13,12 +13,12 @@ use Rattle.fibs_model.specs.declared.entry.Entry.{Entry}
 use Rattle.fibs_engine.specs.Printing.{line_bytes}
 use Rattle.fibs_replay.specs.LogLines.{entry_line, log_text}
 use Rattle.fibs_engine.specs.Writing.{GainedFront, Wrote, progress_of}
-use Rattle.fibs_engine.specs.declared.writing.Broken as declared
+use Rattle.fibs_engine.specs.declared.writing.Unwritten as declared
 use Rattle.fibs_replay.specs.Passing.{Passed}
 use Rattle.fibs_engine.specs.Writing.{Progress, Whole, Broken}
 
 -- after a failed write the answer says so
-pub broken_on : (Holds : Progress → Type 0) (r : Result ⊤ declared.Broken) (v : declared.Broken)
+pub broken_on : (Holds : Progress → Type 0) (r : Result ⊤ declared.Unwritten) (v : declared.Unwritten)
     → IsErrAnd r (λ e. e ≡ v) → Holds Broken → Holds (progress_of r)
 broken_on Holds (Ok x) v h p = absurd h
 broken_on Holds (Err e) v h p = p

@@ -11,7 +11,7 @@ use Rattle.fibs_session.specs.declared.histories.refusal.PlainRefusal.{PlainRefu
 use Rattle.fibs_session.specs.History.Log.{Lost}
 use Rattle.fibs_session.specs.History.Words.{Ask, IsLikeness, last, open_now, shown, unconfirmed}
 use Rattle.fibs_session.specs.History.Hearing.{nothing_heard, line_reading}
-use Rattle.fibs_session.specs.History.Machine.{Talk, Step, Open, Lose, Click, PlainInput, start, stays, does, is_online}
+use Rattle.fibs_session.specs.History.Machine.{Talk, Outcome, Open, Lose, Click, PlainInput, start, stays, does, is_online}
 use Rattle.fibs_session.specs.History.Machine.{opened, opens, open_refusal, loses, unconfirmed_now, clicks, plains}
 use Rattle.fibs_session.specs.History.Machine.{answer_now, plain_refusal, heard_by, line_heard, hears, shown_now}
 use Rattle.fibs_session.specs.History.Machine.{ordered_now, Order, Withdraw, order_refusal, withdraw_refusal, orders_on}
@@ -30,13 +30,13 @@ use Rattle.fibs_session.proofs.History.Steps.{plain_refused_law, ordered_law, or
 use Rattle.fibs_session.proofs.History.Steps.{order_law, withdraw_law}
 
 -- a choice of two sessions is at the same choice of two steps if each is
-both : (b : Bool) (v w : SessionValue) (s u : Step)
+both : (b : Bool) (v w : SessionValue) (s u : Outcome)
     → (b ≡ true → At v s.talk) → (b ≡ false → At w u.talk) → At (if b then v else w) (if b then s else u).talk
 both true v w s u f g = f refl
 both false v w s u f g = g refl
 
 -- a choice of two steps hands out what the chosen one does
-send_if : (b : Bool) (s u : Step) → (if b then s.send else u.send) ≡ (if b then s else u).send
+send_if : (b : Bool) (s u : Outcome) → (if b then s.send else u.send) ≡ (if b then s else u).send
 send_if true s u = refl
 send_if false s u = refl
 
@@ -78,7 +78,7 @@ pub lose_does : (v v' : SessionValue) → v' ≡ lose_fields v → SessionDoes v
 unfolding SessionStandsAfter
 lose_does v v' e = record {
   stands = λ t at.
-      let s : Step = does t (Lost (open_now t.log) (unconfirmed_now t) ∷ []) [] in
+      let s : Outcome = does t (Lost (open_now t.log) (unconfirmed_now t) ∷ []) [] in
       subst (λ x. At x (loses t).talk) (sym e)
       (subst (λ b. At (lose_fields v) (if b then s else stays t).talk) (online_law v t at)
       (both v.online (lost v) v s (stays t) (λ on. at_lost v t at (unconfirmed_now t)) (λ off. at)));

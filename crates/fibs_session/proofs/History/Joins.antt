@@ -11,7 +11,7 @@ use Rattle.fibs_session.specs.History.Log.{Entry, Shown}
 use Rattle.fibs_session.specs.History.Words.{open_from, open_now, opened_by}
 use Rattle.fibs_session.specs.History.Orders.{is_due}
 use Rattle.fibs_session.specs.History.Hearing.{Heard, shows_board, line_reading}
-use Rattle.fibs_session.specs.History.Machine.{Talk, Step, InputValue, run, step, stays, is_online, reads}
+use Rattle.fibs_session.specs.History.Machine.{Talk, Outcome, InputValue, run, step, stays, is_online, reads}
 use Rattle.fibs_session.specs.History.Machine.{hears, hears_all, heard_by, then_also, with_bytes, gained}
 use Rattle.fibs_session.specs.History.MachineLaws.{PiecesJoin, EmptyPieceIsNothing, LinesOpenNoConnection}
 use Rattle.fibs_session.proofs.History.Past.{open_append}
@@ -70,11 +70,11 @@ all_append t (l ∷ ls) ms =
     ∙ ap (λ texts. the_step (hears_all (hears_all (hears t h).talk ls).talk ms).talk texts) (sym (append_assoc h.send
     (hears_all (hears t h).talk ls).send (hears_all (hears_all (hears t h).talk ls).talk ms).send))
   where
-    the_step : Talk → List (List ℕ) → Step
+    the_step : Talk → List (List ℕ) → Outcome
     the_step talk texts = record { talk = talk; send = texts }
 
 -- lines are heard whatever bytes follow
-abbrev step_with : Step → List ℕ → Step
+abbrev step_with : Outcome → List ℕ → Outcome
 step_with s q = record { talk = with_bytes s.talk q; send = s.send }
 
 -- lines are heard in the same way whatever bytes follow them
@@ -101,7 +101,7 @@ module _ (grow : LinesOnlyGrow) where
   pub pieces_join : PiecesJoin
   pieces_join t p q = go (is_online t) refl
     where
-      with_if : Bool → Talk → List ℕ → Step
+      with_if : Bool → Talk → List ℕ → Outcome
       with_if b t x = if b then hears_all (with_bytes t x) (gained t.stream x) else stays t
 
       go : (b : Bool) → is_online t ≡ b → reads t (p ++ q) ≡ then_also (reads t p).send (reads (reads t p).talk q)
@@ -111,7 +111,7 @@ module _ (grow : LinesOnlyGrow) where
       go true on =
           let m1 : List ReadLine = gained t.stream p in
           let m2 : List ReadLine = gained (t.stream ++ p) q in
-          let s1 : Step = hears_all (with_bytes t p) m1 in
+          let s1 : Outcome = hears_all (with_bytes t p) m1 in
           let first : reads t p ≡ s1 = ap (λ b. with_if b t p) on in
           let more : with_bytes t (p ++ q) ≡ with_bytes (with_bytes t p) q =
           ap (the_talk t) (sym (append_assoc t.stream p q)) in

@@ -28,7 +28,7 @@ pub record Talk : Type 0 where
   pub commands : List (List ℕ)  -- those handed out on it
 
 -- a step's outcome: the machine after it, and the commands that it hands out
-pub record Step : Type 0 where
+pub record Outcome : Type 0 where
   pub talk : Talk
   pub send : List (List ℕ)
 
@@ -59,11 +59,11 @@ noted t entries texts =
     record { login = t.login; log = t.log ++ entries; stream = t.stream; commands = t.commands ++ texts }
 
 -- entries are noted, and these commands are the outcome
-abbrev pub does : Talk → List Entry → List (List ℕ) → Step
+abbrev pub does : Talk → List Entry → List (List ℕ) → Outcome
 does t entries texts = record { talk = noted t entries texts; send = texts }
 
 -- nothing happens
-abbrev pub stays : Talk → Step
+abbrev pub stays : Talk → Outcome
 stays t = record { talk = t; send = [] }
 
 -- Open
@@ -81,7 +81,7 @@ opened t = record {
   commands = t.login ∷ [];
 }
 
-abbrev pub opens : Talk → Step
+abbrev pub opens : Talk → Outcome
 opens t = if is_online t then stays t else record { talk = opened t; send = t.login ∷ [] }
 
 -- Lose
@@ -90,7 +90,7 @@ opens t = if is_online t then stays t else record { talk = opened t; send = t.lo
 abbrev pub unconfirmed_now : Talk → Option Ask
 unconfirmed_now t = unconfirmed same_game (open_now t.log) t.log
 
-abbrev pub loses : Talk → Step
+abbrev pub loses : Talk → Outcome
 loses t = if is_online t then does t (Lost (open_now t.log) (unconfirmed_now t) ∷ []) [] else stays t
 
 -- Piece
@@ -99,15 +99,15 @@ loses t = if is_online t then does t (Lost (open_now t.log) (unconfirmed_now t) 
 abbrev pub heard_by : Talk → ReadingValue → Heard
 heard_by t r = heard (open_now t.log) t.log r
 
-abbrev pub hears : Talk → Heard → Step
+abbrev pub hears : Talk → Heard → Outcome
 hears t h = does t h.entries h.send
 
 -- one step after another: what both hand out
-abbrev pub then_also : List (List ℕ) → Step → Step
+abbrev pub then_also : List (List ℕ) → Outcome → Outcome
 then_also texts later = record { talk = later.talk; send = texts ++ later.send }
 
 -- the lines are heard, one after another
-unfoldable pub hears_all : Talk → List ReadLine → Step
+unfoldable pub hears_all : Talk → List ReadLine → Outcome
 hears_all t [] = stays t
 hears_all t (l ∷ ls) =
     then_also (heard_by t (line_reading l)).send (hears_all (hears t (heard_by t (line_reading l))).talk ls)
@@ -120,7 +120,7 @@ with_bytes t bytes = record { login = t.login; log = t.log; stream = t.stream ++
 abbrev pub gained : List ℕ → List ℕ → List ReadLine
 gained before more = drop (length (lines_of before)) (lines_of (before ++ more))
 
-abbrev pub reads : Talk → List ℕ → Step
+abbrev pub reads : Talk → List ℕ → Outcome
 reads t bytes = if is_online t then hears_all (with_bytes t bytes) (gained t.stream bytes) else stays t
 
 -- what a whole line says; offline nothing
@@ -138,16 +138,16 @@ abbrev pub answer_now : Talk → DecisionValue → Option Refusal
 answer_now t d = answer same_game allows t.log d
 
 -- the decision is sent, in the numbers of the board shown last
-abbrev pub decides_on : Talk → DecisionValue → Option BoardFields → Step
+abbrev pub decides_on : Talk → DecisionValue → Option BoardFields → Outcome
 decides_on t d None = stays t
 decides_on t d (Some b) =
     does t (Clicked (open_now t.log) d None ∷ Sent (open_now t.log) b d ∷ []) (command_of (direction_of b) d ∷ [])
 
-abbrev pub clicks_by : Talk → DecisionValue → Option Refusal → Step
+abbrev pub clicks_by : Talk → DecisionValue → Option Refusal → Outcome
 clicks_by t d (Some why) = does t (Clicked (open_now t.log) d (Some why) ∷ []) []
 clicks_by t d None = decides_on t d (last (shown (open_now t.log) t.log))
 
-abbrev pub clicks : Talk → DecisionValue → Step
+abbrev pub clicks : Talk → DecisionValue → Outcome
 clicks t d = clicks_by t d (answer_now t d)
 
 -- Plain
@@ -179,11 +179,11 @@ plain_refusal t p =
     else (if not (may_send t p) then Some P.NotOn
     else option_map P.Fault (plain_fault_of p))
 
-abbrev pub sends_plain : Talk → PlainValue → Option PlainRefusal → Step
+abbrev pub sends_plain : Talk → PlainValue → Option PlainRefusal → Outcome
 sends_plain t p (Some why) = stays t
 sends_plain t p None = does t [] (plain_of p ∷ [])
 
-abbrev pub plains : Talk → PlainValue → Step
+abbrev pub plains : Talk → PlainValue → Outcome
 plains t p = sends_plain t p (plain_refusal t p)
 
 -- Order and Withdraw
@@ -205,19 +205,19 @@ withdraw_refusal log =
     else (if is_ordered (open_now log) log then None else Some R.NotOrdered)
 
 -- an entry is noted if nothing refuses it
-abbrev pub notes_if : Talk → Entry → Option Refusal → Step
+abbrev pub notes_if : Talk → Entry → Option Refusal → Outcome
 notes_if t e (Some why) = stays t
 notes_if t e None = does t (e ∷ []) []
 
-abbrev pub orders_on : Talk → Step
+abbrev pub orders_on : Talk → Outcome
 orders_on t = notes_if t (Ordered (open_now t.log)) (order_refusal t.log)
 
-abbrev pub withdraws : Talk → Step
+abbrev pub withdraws : Talk → Outcome
 withdraws t = notes_if t (Withdrawn (open_now t.log)) (withdraw_refusal t.log)
 
 -- all inputs
 
-abbrev pub step : Talk → InputValue → Step
+abbrev pub step : Talk → InputValue → Outcome
 step t Open = opens t
 step t Lose = loses t
 step t (Piece bytes) = reads t bytes
@@ -226,7 +226,7 @@ step t (PlainInput p) = plains t p
 step t Order = orders_on t
 step t Withdraw = withdraws t
 
-unfoldable pub run : Talk → List InputValue → Step
+unfoldable pub run : Talk → List InputValue → Outcome
 run t [] = stays t
 run t (i ∷ is) = then_also (step t i).send (run (step t i).talk is)
 

@@ -37,7 +37,7 @@ enum Roller {
 /// A turn: the board on which its dice are shown, and the board that came after it, both as the one sees them who has
 /// rolled.
 #[derive(Clone, Copy)]
-struct Turn {
+struct PlayedTurn {
     roller: Roller,
     before: GameBoard,
     after: Board,
@@ -46,7 +46,7 @@ struct Turn {
 /// The turns of a game that boards have shown, the oldest first.
 #[derive(Drop)]
 pub struct Story {
-    turns: Vec<Turn>,
+    turns: Vec<PlayedTurn>,
     /// How many turns were forgotten, since there were too many.
     forgotten: usize,
     /// The board that came last.
@@ -77,14 +77,14 @@ fn begins_anew(before: &GameBoard, game: &GameBoard) -> bool {
 }
 
 /// The turn from a board to the one after it, if somebody has rolled on the first.
-fn turn_of(before: &GameBoard, after: &GameBoard) -> Option<Turn> {
+fn turn_of(before: &GameBoard, after: &GameBoard) -> Option<PlayedTurn> {
     match roller_of(before)? {
-        Roller::Own => Some(Turn {
+        Roller::Own => Some(PlayedTurn {
             roller: Roller::Own,
             before: *before,
             after: *after.board(),
         }),
-        Roller::Other => Some(Turn {
+        Roller::Other => Some(PlayedTurn {
             roller: Roller::Other,
             before: GameBoard::of(&mirrored(before.board())).ok()?,
             after: mirrored(after.board()),
@@ -133,7 +133,7 @@ impl Story {
     }
 
     /// Keeps a turn; the oldest goes if there are many.
-    fn keep(&mut self, turn: Turn) -> Result<(), AllocError> {
+    fn keep(&mut self, turn: PlayedTurn) -> Result<(), AllocError> {
         if self.turns.len() >= MOST_KEPT {
             self.turns.remove(0);
             self.forgotten = self.forgotten.saturating_add(1);
@@ -193,7 +193,7 @@ fn append_row_number(number: usize, text: &mut Vec<u8>) -> Result<(), AllocError
 }
 
 /// Appends who has rolled.
-fn append_roller(turn: &Turn, text: &mut Vec<u8>) -> Result<(), AllocError> {
+fn append_roller(turn: &PlayedTurn, text: &mut Vec<u8>) -> Result<(), AllocError> {
     match turn.roller {
         Roller::Own => text.extend_from_slice(b"You roll "),
         Roller::Other => {
@@ -205,7 +205,7 @@ fn append_roller(turn: &Turn, text: &mut Vec<u8>) -> Result<(), AllocError> {
 }
 
 /// Appends what was rolled.
-fn append_dice(turn: &Turn, text: &mut Vec<u8>) -> Result<(), AllocError> {
+fn append_dice(turn: &PlayedTurn, text: &mut Vec<u8>) -> Result<(), AllocError> {
     let board = turn.before.board();
     append_number(board.die(FIRST_DIE), text)?;
     text.extend_from_slice(b" and ")?;
@@ -233,7 +233,7 @@ fn append_play(
 /// Appends the row of a turn.
 fn append_turn(
     alloc: Global,
-    turn: &Turn,
+    turn: &PlayedTurn,
     number: usize,
     text: &mut Vec<u8>,
 ) -> Result<(), AllocError> {

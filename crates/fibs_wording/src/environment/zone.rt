@@ -18,7 +18,7 @@ const MOST_BYTES: u64 = 1 << 20;
 
 /// What the clock of a place shows: by the time zone that `TZ` names, else by that of the system.
 #[derive(Drop)]
-pub struct Place {
+pub struct Clocks {
     system: Option<SystemTimeZone>,
     /// The zone that `TZ` names, if it names one.
     names: TimeZoneDatabase,
@@ -86,21 +86,21 @@ fn insert_named(rt: &HostRuntime, name: &str, names: &mut TimeZoneDatabase) {
     }
 }
 
-impl Place {
+impl Clocks {
     /// The place of the program. A name of a zone has a file in the place of all zones, and no other.
-    pub fn read(rt: &HostRuntime) -> Place {
+    pub fn read(rt: &HostRuntime) -> Clocks {
         let mut names = TimeZoneDatabase::new(rt.alloc());
         if let Ok(tz) = env::var(rt, "TZ") {
             let name = zone_name(tz.as_str());
             if leads_out(name) {
-                return Place {
+                return Clocks {
                     system: None,
                     names,
                 };
             }
             insert_named(rt, name, &mut names);
         }
-        Place {
+        Clocks {
             system: SystemTimeZone::read(rt).ok(),
             names,
         }

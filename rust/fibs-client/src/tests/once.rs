@@ -1,7 +1,7 @@
 //! Devices that fail once: what failed is not tried again by itself.
 
 use crate::fibs_engine::attention::Pace;
-use crate::fibs_engine::dial::{Dial, Place, Server};
+use crate::fibs_engine::dial::{Dial, Endpoint, TcpDial};
 use crate::fibs_engine::logging::LoggedServer;
 use crate::fibs_engine::pacing::PacedServer;
 use crate::fibs_test_tools::devices::FailsOnce;
@@ -81,19 +81,19 @@ fn why_none<D: Dial>(door: &mut D) -> Option<ErrorKind> {
 }
 
 /// The same at a terminal.
-fn why_none_paced(net: &Nobody<'_>, place: Place<'_>) -> Option<ErrorKind> {
-    why_none(&mut PacedServer::new(Server::new(net, place), Pace { millis: 20, typed: None }))
+fn why_none_paced(net: &Nobody<'_>, place: Endpoint<'_>) -> Option<ErrorKind> {
+    why_none(&mut PacedServer::new(TcpDial::new(net, place), Pace { millis: 20, typed: None }))
 }
 
 /// The same with a log.
-fn why_none_logged(net: &Nobody<'_>, place: Place<'_>) -> Option<ErrorKind> {
-    why_none(&mut LoggedServer::new(Server::new(net, place), &HostRuntime, None))
+fn why_none_logged(net: &Nobody<'_>, place: Endpoint<'_>) -> Option<ErrorKind> {
+    why_none(&mut LoggedServer::new(TcpDial::new(net, place), &HostRuntime, None))
 }
 
 /// The three of them, if the network is this one.
 fn whys_none(net: &Nobody<'_>) -> [Option<ErrorKind>; 3] {
-    let place = Place { host: "fibs.example", port: 4321, quiet: Duration::from_millis(20) };
-    [why_none(&mut Server::new(net, place)), why_none_paced(net, place), why_none_logged(net, place)]
+    let place = Endpoint { host: "fibs.example", port: 4321, quiet: Duration::from_millis(20) };
+    [why_none(&mut TcpDial::new(net, place)), why_none_paced(net, place), why_none_logged(net, place)]
 }
 
 /// If no address of a name answers, each was tried once, and the last says why; with a log and at a terminal too.
