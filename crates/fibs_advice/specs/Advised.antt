@@ -1,6 +1,5 @@
 -- What is advised in a state, and how a terminal says it (the project's own).
-use Rattle.std.specs.Prelude.{◌≡◌, ◌≢◌, ◌++◌, ◌∷◌, ℕ, List, [], codes, Bool, true, false}
-use Rattle.std.specs.Prelude.{Option, Some, None, IfSome, is_none, option_map}
+use Rattle.std.specs.Prelude.{◌≡◌, ◌≢◌, ◌++◌, ◌∷◌, ℕ, List, [], codes, Bool, true, false, Option, Some, None, IfSome, is_none, option_map}
 use Rattle.fibs_fields.specs.Board.{BoardFields}
 use Rattle.fibs_position.specs.Allowed.{allowed_of}
 use Rattle.fibs_position.specs.DecisionValue.{DecisionValue, accept, reject, decision_of}
@@ -13,8 +12,7 @@ use Rattle.fibs_session.specs.History.Machine.{Talk, shown_now, unconfirmed_now,
 use Rattle.fibs_session.specs.History.Words.{Ask}
 use Rattle.fibs_advice.specs.Offers.{OffersNow, is_taken, may_decide, first_way, hint_text}
 use Rattle.fibs_advice.specs.Standings.{hides_offers, is_unsure, repeats, owes_answer}
-use Rattle.fibs_advice.specs.Rows.{answers, names_way_on, plain_in, rolls_alone, shows_offers}
-use Rattle.fibs_advice.specs.Rows.{words_before, words_after}
+use Rattle.fibs_advice.specs.Rows.{answers, names_way_on, plain_in, rolls_alone, shows_offers, words_before, words_after}
 use Rattle.fibs_advice.specs.declared.row.Row.{Row}
 use Rattle.fibs_advice.specs.declared.row.Row.TheVariants as R
 use Rattle.fibs_advice.specs.declared.standing.Standing.{Standing}

@@ -1,6 +1,5 @@
 -- What may be decided now, and how a terminal says it (the project's own).
-use Rattle.std.specs.Prelude.{◌≡◌, ◌++◌, ◌||◌, ℕ, List, [], codes, Bool, true, false}
-use Rattle.std.specs.Prelude.{Option, Some, None, IfSome, is_none, is_some}
+use Rattle.std.specs.Prelude.{◌≡◌, ◌++◌, ◌||◌, ℕ, List, [], codes, Bool, true, false, Option, Some, None, IfSome, is_none, is_some}
 use Rattle.fibs_commands.specs.Commands.{command_of}
 use Rattle.fibs_position.specs.declared.decision.Decision.{Decision}
 use Rattle.fibs_position.specs.declared.decision.Decision.TheVariants as D

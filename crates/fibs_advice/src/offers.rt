@@ -5,8 +5,7 @@ ghost use Rattle.fibs_position.specs.DirectionOf.{direction_of};
 ghost use Rattle.fibs_rules.specs.PlayValue.{hops_of};
 ghost use Rattle.fibs_session.specs.History.Machine.{Talk, shown_now};
 ghost use Rattle.fibs_session.specs.Calls.Standing.{StandsAfter};
-ghost use Rattle.fibs_advice.specs.Offers.{OffersNow, is_taken, may_decide, first_way, example_text};
-ghost use Rattle.fibs_advice.specs.Offers.{hint_words, hint_text};
+ghost use Rattle.fibs_advice.specs.Offers.{OffersNow, is_taken, may_decide, first_way, example_text, hint_words, hint_text};
 
 use fibs_commands::decision_text;
 use fibs_position::{Decision, Direction, Play};

@@ -1,8 +1,7 @@
 //! Rows: what is said to who plays, and what they name.
 ghost use Rattle.std.specs.Prelude.{◌≡◌, option_map};
 ghost use Rattle.fibs_commands.specs.PlainOf.{plain_value};
-ghost use Rattle.fibs_advice.specs.Rows.{plain_in, answers, is_asked_for, names_way_on, rolls_alone, shows_offers};
-ghost use Rattle.fibs_advice.specs.Rows.{words_before, words_after};
+ghost use Rattle.fibs_advice.specs.Rows.{plain_in, answers, is_asked_for, names_way_on, rolls_alone, shows_offers, words_before, words_after};
 
 use fibs_commands::Plain;
 

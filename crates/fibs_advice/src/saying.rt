@@ -1,8 +1,7 @@
 //! How what is advised is said.
 ghost use Rattle.std.specs.Prelude.{◌≡◌, ◌++◌, codes, OnOk};
 ghost use Rattle.fibs_advice.specs.Rows.{words_before, words_after};
-ghost use Rattle.fibs_advice.specs.Advised.{advice_text, beginning, goes_on_text, line_text, named_in, send_text};
-ghost use Rattle.fibs_advice.specs.Advised.{decision_word, invite_words, opponent_text, resumes_text, toggles_text};
+ghost use Rattle.fibs_advice.specs.Advised.{advice_text, beginning, goes_on_text, line_text, named_in, send_text, decision_word, invite_words, opponent_text, resumes_text, toggles_text};
 
 use crate::advised::Advice;
 use crate::offers::{append_offers, first_way};

@@ -1,12 +1,9 @@
 -- Lines that were read one after another: their texts come after each other, and a later one leaves the earlier as
 -- they are.
-use Rattle.std.proofs.Common.{◌≡◌, ◌≢◌, ◌<◌, ◌≤◌, ◌+◌, ◌-◌, ℕ, Bool, not, true, false, List, [], ◌∷◌, ◌++◌, length}
-use Rattle.std.proofs.Common.{take, drop, map, refl, sym, ap, subst, ◌∙◌, arith, append_assoc, slice_set, length-set}
-use Rattle.std.proofs.Common.{length-drop, if◌then◌else◌}
+use Rattle.std.proofs.Common.{◌≡◌, ◌≢◌, ◌<◌, ◌≤◌, ◌+◌, ◌-◌, ℕ, Bool, not, true, false, List, [], ◌∷◌, ◌++◌, length, take, drop, map, refl, sym, ap, subst, ◌∙◌, arith, append_assoc, slice_set, length-set, length-drop, if◌then◌else◌}
 use borrow.Rule.Slice.PartMut.{mid_of, post_of, put_mid, same_len_mid}
 use Rattle.std.proofs.lemmas.Bool.{ne_eqb}
-use Rattle.std.proofs.lemmas.List.{take-take, drop-take, take_more_set, map-append, append-nil}
-use Rattle.std.proofs.lemmas.List.{take_all, drop_all, drop_at, drop-drop, drop-set-lt}
+use Rattle.std.proofs.lemmas.List.{take-take, drop-take, take_more_set, map-append, append-nil, take_all, drop_all, drop_at, drop-drop, drop-set-lt}
 use Rattle.std.proofs.lemmas.Slice.{between_to_end, take-put_mid_below}
 use Rattle.std.proofs.Math.Seq.{take-add, length-take-le}
 use Rattle.std.specs.List.{AllByRecursion, between, concat}

@@ -1,6 +1,5 @@
 -- The lines of boards that C has as records, and of boards with the sides exchanged.
-use Rattle.std.specs.Prelude.{◌≡◌, ℕ, ℤ, pos, neg_ℤ, ◌+◌, ◌<◌, ◌≤◌, ◌⊎◌, ◌++◌, List, ◌∷◌, length, take, codes, flat_map}
-use Rattle.std.specs.Prelude.{slice_index_or, nat_eq, if◌then◌else◌}
+use Rattle.std.specs.Prelude.{◌≡◌, ℕ, ℤ, pos, neg_ℤ, ◌+◌, ◌<◌, ◌≤◌, ◌⊎◌, ◌++◌, List, ◌∷◌, length, take, codes, flat_map, slice_index_or, nat_eq, if◌then◌else◌}
 use Rattle.std.specs.Fmt.{signed_decimal}
 use Rattle.fibs_fields.specs.Board.{BoardFields, BoardText, field_of}
 use Rattle.fibs_c.specs.declared.records.boards.BoardRecord.{BoardRecord}

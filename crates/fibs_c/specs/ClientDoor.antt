@@ -9,8 +9,7 @@ use Rattle.fibs_fields.specs.Board.{BoardFields, spelling}
 use Rattle.fibs_position.specs.DecisionValue.{DecisionValue, roll}
 use Rattle.fibs_session.specs.Calls.Standing.{ClientValue, StandsAfter}
 use Rattle.fibs_session.specs.History.Words.{Ask}
-use Rattle.fibs_session.specs.History.Machine.{Talk, InputValue, start, step, Open, Lose, Click, PlainInput, wire_of}
-use Rattle.fibs_session.specs.History.Machine.{open_refusal, unconfirmed_now, answer_now, plain_refusal, shown_now}
+use Rattle.fibs_session.specs.History.Machine.{Talk, InputValue, start, step, Open, Lose, Click, PlainInput, wire_of, open_refusal, unconfirmed_now, answer_now, plain_refusal, shown_now}
 use Rattle.fibs_c.specs.Records.Asks.{IsAskAs, IsMaybeAsk}
 use Rattle.fibs_c.specs.Records.BoardOf.{IsBoardAs}
 use Rattle.fibs_c.specs.Records.Statuses.{refusal_status, plain_status}

@@ -1,6 +1,5 @@
 -- What C gets of a player in one call.
-use Rattle.std.specs.Prelude.{◌≡◌, ℕ, ◌<◌, ◌≤◌, ◌++◌, List, [], length, take, drop, Option, None, Some, option_map}
-use Rattle.std.specs.Prelude.{nat_le, if◌then◌else◌}
+use Rattle.std.specs.Prelude.{◌≡◌, ℕ, ◌<◌, ◌≤◌, ◌++◌, List, [], length, take, drop, Option, None, Some, option_map, nat_le, if◌then◌else◌}
 use Rattle.fibs_messages.specs.Directory.{entry_of}
 use Rattle.fibs_messages.specs.FieldOf.{field_at}
 use Rattle.fibs_messages.specs.Message.{MessageValue}

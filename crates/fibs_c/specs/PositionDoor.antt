@@ -1,7 +1,5 @@
 -- What C gets of a position.
-use Rattle.std.specs.Prelude.{◌≡◌, ℕ, ℤ, ◌+◌, ◌<◌, ◌≤◌, ◌⊎◌, pos, negsuc, List}
-use Rattle.std.specs.Prelude.{length, map, take, drop, Option, None, Some}
-use Rattle.std.specs.Prelude.{if◌then◌else◌}
+use Rattle.std.specs.Prelude.{◌≡◌, ℕ, ℤ, ◌+◌, ◌<◌, ◌≤◌, ◌⊎◌, pos, negsuc, List, length, map, take, drop, Option, None, Some, if◌then◌else◌}
 use Rattle.std.specs.Ordering.{int_eq}
 use Rattle.fibs_fields.specs.Board.{BoardFields, BoardText}
 use Rattle.fibs_commands.specs.CommandReading.{read_command}
@@ -17,8 +15,7 @@ use Rattle.fibs_position.specs.PositionValue.{PositionValue, position_of}
 use Rattle.fibs_position.specs.declared.direction.Direction.{Direction}
 use Rattle.fibs_position.specs.declared.direction.Direction.TheVariants.{Down, Up}
 use Rattle.fibs_position.specs.declared.phase.Phase.{Phase}
-use Rattle.fibs_position.specs.declared.phase.Phase.TheVariants.{Over, AnswerDouble, OpponentActs, RollOrDouble, Move}
-use Rattle.fibs_position.specs.declared.phase.Phase.TheVariants.{Passing}
+use Rattle.fibs_position.specs.declared.phase.Phase.TheVariants.{Over, AnswerDouble, OpponentActs, RollOrDouble, Move, Passing}
 use Rattle.fibs_position.specs.declared.position_fault.PositionFault.{PositionFault}
 use Rattle.fibs_rules.specs.Hop.{Hop}
 use Rattle.fibs_c.specs.BoardDoor.{IsWrongBoard}

@@ -4,8 +4,7 @@ ghost use Rattle.std.specs.Prelude.{◌≡◌, ◌⊎◌, ◌+◌, ◌<◌, ◌�
 ghost use Rattle.fibs_fields.specs.Board.{field_of};
 ghost use Rattle.fibs_fields.specs.StoredBoard.{fields_of};
 ghost use Rattle.fibs_c.specs.BoardDoor.{IsPrintedBoard};
-ghost use Rattle.fibs_c.specs.BoardLineDoor.{IsBoardLine, IsTurned, board_text, numbers_text};
-ghost use Rattle.fibs_c.specs.BoardLineDoor.{other_field, turned_field};
+ghost use Rattle.fibs_c.specs.BoardLineDoor.{IsBoardLine, IsTurned, board_text, numbers_text, other_field, turned_field};
 
 use crate::records::boards::BoardRecord;
 use crate::records::status::field_fault_status;

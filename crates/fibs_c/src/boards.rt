@@ -2,8 +2,7 @@
 
 ghost use Rattle.std.specs.Prelude.{◌≡◌};
 ghost use Rattle.fibs_fields.specs.StoredBoard.{fields_of};
-ghost use Rattle.fibs_c.specs.BoardDoor.{IsBoardRead, IsPrintedBoard, IsOverTold, IsDifferenceTold, ends_match};
-ghost use Rattle.fibs_c.specs.BoardDoor.{is_won};
+ghost use Rattle.fibs_c.specs.BoardDoor.{IsBoardRead, IsPrintedBoard, IsOverTold, IsDifferenceTold, ends_match, is_won};
 
 use crate::records::boards::{BoardRecord, put_board};
 use crate::records::status::{DONE, field_fault_status};

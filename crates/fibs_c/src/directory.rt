@@ -4,8 +4,7 @@ ghost use Rattle.std.specs.Prelude.{◌≡◌, None, option_map};
 ghost use Rattle.fibs_messages.specs.Directory.View.{player_value};
 ghost use Rattle.fibs_messages.specs.FieldOf.{field_at};
 ghost use Rattle.fibs_messages.specs.Line.{reading_of, reading_value};
-ghost use Rattle.fibs_c.specs.DirectoryDoor.{IsNewDirectory, IsNoted, Notes, IsCounted, IsCleared, IsPlayerAt};
-ghost use Rattle.fibs_c.specs.DirectoryDoor.{IsPlayerOf, IsPlayerField};
+ghost use Rattle.fibs_c.specs.DirectoryDoor.{IsNewDirectory, IsNoted, Notes, IsCounted, IsCleared, IsPlayerAt, IsPlayerOf, IsPlayerField};
 ghost use Rattle.fibs_c.specs.Records.Fields.{part_value, told_field};
 
 use crate::records::DirectoryHandle;

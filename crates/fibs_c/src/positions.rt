@@ -6,9 +6,7 @@ ghost use Rattle.fibs_position.specs.DecisionValue.{decision_of as value_of};
 ghost use Rattle.fibs_position.specs.PositionValue.{position_value};
 ghost use Rattle.fibs_rules.specs.PlayValue.{hops_of};
 ghost use Rattle.fibs_c.specs.Records.Decisions.{decision_in, as_move, move_in};
-ghost use Rattle.fibs_c.specs.PositionDoor.{IsPositionIn, IsNoPosition, IsPhaseTold, IsAllowedTold, phase_number};
-ghost use Rattle.fibs_c.specs.PositionDoor.{ArePlaysTold, HandsOutPlays, direction_in, IsTextTold};
-ghost use Rattle.fibs_c.specs.PositionDoor.{IsDecisionRead, IsDecisionReadIn};
+ghost use Rattle.fibs_c.specs.PositionDoor.{IsPositionIn, IsNoPosition, IsPhaseTold, IsAllowedTold, phase_number, ArePlaysTold, HandsOutPlays, direction_in, IsTextTold, IsDecisionRead, IsDecisionReadIn};
 
 use crate::records::decisions::{DecisionRecord, decision_of, decision_record, play_record};
 use crate::records::status::{

@@ -1,13 +1,11 @@
 -- What the engines answer, in the words of the program.
-use Rattle.std.proofs.Common.{◌≡◌, ◌⊎◌, [], ℕ, List, Option, Result, Ok, Err, IfOk, OnOk, IsErrOf}
-use Rattle.std.proofs.Common.{Some, None, MatchResult, refl, sym, subst, inl, arith}
+use Rattle.std.proofs.Common.{◌≡◌, ◌⊎◌, [], ℕ, List, Option, Result, Ok, Err, IfOk, OnOk, IsErrOf, Some, None, MatchResult, refl, sym, subst, inl, arith}
 use Rattle.std.proofs.KnownBytes.{Keeps-refl}
 use Rattle.std.specs.Borrow.{Bor}
 use Rattle.std.specs.Io.KnownBytes.{Appends, Keeps, IsAtEnd}
 use Rattle.fibs_fields.specs.Board.{BoardFields}
 use Rattle.fibs_show.specs.Plays.{PlaysText}
-use Rattle.fibs_cli.specs.Program.{Streams, Showed, ShowedObjects, Listed, Played, PlayedWord, RanScript}
-use Rattle.fibs_cli.specs.Program.{ListedObject, ListedWord, PlayedScript, RanObjects, Served}
+use Rattle.fibs_cli.specs.Program.{Streams, Showed, ShowedObjects, Listed, Played, PlayedWord, RanScript, ListedObject, ListedWord, PlayedScript, RanObjects, Served}
 use Rattle.fibs_engine.specs.Printing.{Printed, line_bytes}
 use Rattle.fibs_replay.specs.Output.{LoggedInPart, Replayed, ReplayFailed, ReplayedInPart}
 use Rattle.fibs_replay.specs.Scripts.{script_limit}
@@ -19,8 +17,7 @@ use Rattle.fibs_json.specs.Streams as objects
 use Rattle.fibs_cli.specs.Replayed.{ObjectsFailed, ObjectsInPart, ReplayedObjects}
 use Rattle.fibs_engine.specs.Writing.{GainedFront}
 use Rattle.fibs_cli.specs.declared.arguments.Request.{Request}
-use Rattle.fibs_cli.specs.declared.arguments.Request.TheVariants.{Show, ShowJson, Plays, PlaysJson}
-use Rattle.fibs_cli.specs.declared.arguments.Request.TheVariants.{Replay, ReplayJson, Loop}
+use Rattle.fibs_cli.specs.declared.arguments.Request.TheVariants.{Show, ShowJson, Plays, PlaysJson, Replay, ReplayJson, Loop}
 use Rattle.fibs_engine.specs.declared.fault.EngineFault.{EngineFault}
 use Rattle.fibs_engine.specs.declared.fault.EngineFault.TheVariants.{Device, Memory}
 

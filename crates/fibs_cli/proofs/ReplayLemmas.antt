@@ -1,6 +1,5 @@
 -- What is printed after a run of a script is for the script.
-use Rattle.std.proofs.Common.{◌≡◌, ◌++◌, ℕ, List, [], true, false, Option, Some, None, Result, Ok, Err}
-use Rattle.std.proofs.Common.{refl, sym, subst, append-nil, inl, inr, IfOk}
+use Rattle.std.proofs.Common.{◌≡◌, ◌++◌, ℕ, List, [], true, false, Option, Some, None, Result, Ok, Err, refl, sym, subst, append-nil, inl, inr, IfOk}
 use Rattle.std.specs.Result.{IsErrOf}
 use Rattle.fibs_fields.specs.Board.{BoardFields}
 use Rattle.fibs_engine.specs.declared.fault.EngineFault.{EngineFault}
@@ -15,8 +14,7 @@ use Rattle.fibs_model.specs.declared.halt.Stop.TheVariants as S
 use Rattle.fibs_replay.specs.Running.{StandsFrom, RanTo, RunPrinted, PrintedFor}
 use Rattle.fibs_replay.proofs.ReplayLemmas.Runs.{IsRun, printed_run}
 use Rattle.fibs_replay.specs.LogLines.{log_text}
-use Rattle.fibs_replay.specs.Output.{LogOf, ReadLines, ReadWhole, ReplayText, end_text, refused_text, script_login}
-use Rattle.fibs_replay.specs.Output.{unread_text}
+use Rattle.fibs_replay.specs.Output.{LogOf, ReadLines, ReadWhole, ReplayText, end_text, refused_text, script_login, unread_text}
 use Rattle.fibs_replay.specs.declared.script.Script.TheVariants.{Unreadable}
 use Rattle.fibs_session.specs.History.Log.{Entry}
 use Rattle.fibs_cli.specs.Endings.{ObjectsOf, last_text}

@@ -1,20 +1,15 @@
 -- An object tells its line.
-use Rattle.std.proofs.Common.{◌≡◌, ℕ, List, ◌++◌, ◌∷◌, [], codes, sym, ap, ◌∙◌}
+use Rattle.std.proofs.Common.{◌≡◌, ℕ, List, ◌++◌, ◌∷◌, [], codes, sym, ap, ◌∙◌, append_assoc, append-nil}
 use Rattle.std.specs.List.{flat_map}
 use Rattle.fibs_json.specs.Json.{member, more_member, more_members, whole}
-use Rattle.fibs_json.specs.Lines.{OpeningsTell, object_with}
+use Rattle.fibs_json.specs.Lines.{OpeningsTell, object_with, opening}
 use Rattle.fibs_replay.specs.LogLines.{entry_line}
-use Rattle.std.proofs.Common.{append_assoc, append-nil}
 use Rattle.fibs_engine.specs.Printing.{line_bytes}
 use Rattle.fibs_connect.specs.Account.{lines_of}
-use Rattle.fibs_connect.specs.Told.{SaidValue, opened_said, no_connection_said, heard_said, phase_said, confirmed_said}
-use Rattle.fibs_connect.specs.Told.{sent_said, rolled_said, passed_said, ordered_said, withdrawn_said, refused_said}
-use Rattle.fibs_connect.specs.Told.{not_sent_said, unknown_said, lost_said, unnoted_said, player_said}
-use Rattle.fibs_json.specs.Lines.{opening}
+use Rattle.fibs_connect.specs.Told.{SaidValue, opened_said, no_connection_said, heard_said, phase_said, confirmed_said, sent_said, rolled_said, passed_said, ordered_said, withdrawn_said, refused_said, not_sent_said, unknown_said, lost_said, unnoted_said, player_said}
 use Rattle.fibs_json.proofs.TellingLemmas.{opened_of_heard}
 use Rattle.fibs_cli.specs.Entries.{EntriesTellLines, entry_connection, entry_kind}
-use Rattle.fibs_cli.specs.Said.{IsLineOf, SaidObjects, SaidTellLines, own_object}
-use Rattle.fibs_cli.specs.Said.{own_objects, said_kind, said_members}
+use Rattle.fibs_cli.specs.Said.{IsLineOf, SaidObjects, SaidTellLines, own_object, own_objects, said_kind, said_members}
 
 -- of an entry
 pub entries_tell : OpeningsTell → EntriesTellLines

@@ -4,8 +4,7 @@ use Rattle.fibs_fields.specs.Board.{BoardFields, spelling}
 use Rattle.fibs_session.specs.declared.histories.refusal.Refusal.{Refusal}
 use Rattle.fibs_messages.specs.Line.{board_line}
 use Rattle.fibs_session.specs.History.Asked.{asked_text}
-use Rattle.fibs_session.specs.History.Log.{Entry, Opened, LoggedIn, Welcomed, Informed, Shown, Clicked, Sent, Took}
-use Rattle.fibs_session.specs.History.Log.{Undone, Lost, Ordered, Withdrawn}
+use Rattle.fibs_session.specs.History.Log.{Entry, Opened, LoggedIn, Welcomed, Informed, Shown, Clicked, Sent, Took, Undone, Lost, Ordered, Withdrawn}
 use Rattle.fibs_session.specs.History.Refusals.{refusal_name}
 use Rattle.fibs_session.specs.History.Words.{Ask}
 use Rattle.fibs_replay.specs.LogLines.{entry_line}

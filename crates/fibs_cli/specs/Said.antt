@@ -9,9 +9,7 @@ use Rattle.fibs_engine.specs.Printing.{line_bytes}
 use Rattle.fibs_fields.specs.Field.{FieldValue, RatingField}
 use Rattle.fibs_connect.specs.Account.{lines_of}
 use Rattle.fibs_connect.specs.Lines.{field_text}
-use Rattle.fibs_connect.specs.Told.{SaidValue, opened_said, no_connection_said, heard_said, phase_said, confirmed_said}
-use Rattle.fibs_connect.specs.Told.{sent_said, rolled_said, passed_said, ordered_said, withdrawn_said, refused_said}
-use Rattle.fibs_connect.specs.Told.{not_sent_said, unknown_said, lost_said, unnoted_said, player_said}
+use Rattle.fibs_connect.specs.Told.{SaidValue, opened_said, no_connection_said, heard_said, phase_said, confirmed_said, sent_said, rolled_said, passed_said, ordered_said, withdrawn_said, refused_said, not_sent_said, unknown_said, lost_said, unnoted_said, player_said}
 use Rattle.fibs_session.specs.declared.histories.refusal.PlainRefusal.{PlainRefusal}
 use Rattle.fibs_session.specs.declared.histories.refusal.PlainRefusal.TheVariants as P
 use Rattle.fibs_messages.specs.Message.{MessageValue}

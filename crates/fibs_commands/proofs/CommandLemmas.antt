@@ -1,18 +1,15 @@
 -- The commands of decisions.
-use Rattle.std.proofs.Common.{◌≡◌, ◌≤◌, ◌*◌, ℕ, List, [], ◌∷◌, length, get_or, refl, ap, arith, rules}
-use Rattle.std.proofs.Common.{length-append}
+use Rattle.std.proofs.Common.{◌≡◌, ◌≤◌, ◌*◌, ℕ, List, [], ◌∷◌, length, get_or, refl, ap, arith, rules, length-append}
 use Rattle.std.specs.Prelude.{All, codes}
 use Rattle.std.proofs.lemmas.List.{append_cancel_left}
-use Rattle.std.proofs.lemmas.List.Elements.{All-weaker, All-append, All-cons, All-nil, All-head, All-tail}
-use Rattle.std.proofs.lemmas.List.Elements.{All-from_recursion}
+use Rattle.std.proofs.lemmas.List.Elements.{All-weaker, All-append, All-cons, All-nil, All-head, All-tail, All-from_recursion}
 use Rattle.fibs_rules.specs.Hop.{Hop, IsStep}
 use Rattle.fibs_position.specs.DecisionValue.{roll, double, accept, reject, move, resign}
 use Rattle.fibs_position.specs.declared.direction.Direction.{Direction}
 use Rattle.fibs_position.specs.declared.stake.Stake.{Stake}
 use Rattle.fibs_position.specs.declared.stake.Stake.TheVariants.{Normal, Gammon, Backgammon}
 use Rattle.fibs_commands.specs.Commands.{step_text, steps_text, stake_text, command_of}
-use Rattle.fibs_commands.specs.CommandLaws.{CommandsTellDecisions, CommandsAreShort, CommandsArePrinted}
-use Rattle.fibs_commands.specs.CommandLaws.{PlainInBothDirections}
+use Rattle.fibs_commands.specs.CommandLaws.{CommandsTellDecisions, CommandsAreShort, CommandsArePrinted, PlainInBothDirections}
 use Rattle.fibs_fields.specs.Printed.{IsPrinted}
 use Rattle.fibs_commands.proofs.StepLemmas.{IsStepByte, step_bytes, step_short, steps_injective}
 

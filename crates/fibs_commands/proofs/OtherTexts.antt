@@ -1,17 +1,13 @@
 -- No login, plain command or command that sets up a connection is the command of a decision.
-use Rattle.std.proofs.Common.{◌≡◌, ℕ, ◌+◌, ◌*◌, ◌==◌, ◌||◌, Bool, true, false, List, Option, Some, None}
-use Rattle.std.proofs.Common.{get_or, refl, sym, ap, ◌∙◌, true≢false}
+use Rattle.std.proofs.Common.{◌≡◌, ℕ, ◌+◌, ◌*◌, ◌==◌, ◌||◌, Bool, true, false, List, Option, Some, None, get_or, refl, sym, ap, ◌∙◌, true≢false}
 use Rattle.fibs_position.specs.DecisionValue.{DecisionValue, roll, double, accept, reject, move, resign}
 use Rattle.fibs_position.specs.declared.direction.Direction.{Direction}
 use Rattle.fibs_commands.specs.Commands.{command_of}
 use Rattle.fibs_commands.specs.CommandReading.{read_command}
 use Rattle.fibs_commands.specs.FirstCommands.{style_text, autoboard_text, moreboards_text, board_text}
 use Rattle.fibs_commands.specs.Logins.{login_text}
-use Rattle.fibs_commands.specs.PlainCommands.{PlainValue, board_again, who, say, tell, shout, whisper, kibitz}
-use Rattle.fibs_commands.specs.PlainCommands.{leave_message, invite, invite_to, join, join_with, toggle_ready}
-use Rattle.fibs_commands.specs.PlainCommands.{automove_off, greedy_off, bye, plain_of}
-use Rattle.fibs_commands.specs.CommandLaws.{ReadCommandIsExact, IsSent, LoginsAreSent, PlainIsSent, FirstAreSent}
-use Rattle.fibs_commands.specs.CommandLaws.{IsOther, LoginIsOther, StyleIsOther, PlainIsOther, InitialAreOther}
+use Rattle.fibs_commands.specs.PlainCommands.{PlainValue, board_again, who, say, tell, shout, whisper, kibitz, leave_message, invite, invite_to, join, join_with, toggle_ready, automove_off, greedy_off, bye, plain_of}
+use Rattle.fibs_commands.specs.CommandLaws.{ReadCommandIsExact, IsSent, LoginsAreSent, PlainIsSent, FirstAreSent, IsOther, LoginIsOther, StyleIsOther, PlainIsOther, InitialAreOther}
 
 -- a number of the first two letters, by which the words of decisions are known: that of `resign` is that of `reject`
 abbrev letters : List ℕ → ℕ

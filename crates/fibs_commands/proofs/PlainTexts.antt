@@ -1,10 +1,8 @@
 -- What a plain command without a fault is made of: a name, a printed text, and points of 16 bits.
-use Rattle.std.proofs.Common.{◌≡◌, ℕ, ◌≤◌, Bool, true, false, cond, nat_le, List, length, Option}
-use Rattle.std.proofs.Common.{Some, None, refl, sym, ◌∙◌, arith}
+use Rattle.std.proofs.Common.{◌≡◌, ℕ, ◌≤◌, Bool, true, false, cond, nat_le, List, length, Option, Some, None, refl, sym, ◌∙◌, arith}
 use Rattle.std.proofs.lemmas.Bool.Decides.{nat_tests}
 use Rattle.fibs_fields.specs.Name.{is_name}
-use Rattle.fibs_commands.specs.PlainCommands.{PlainValue, first_of, name_fault, text_fault, points_fault, is_printed}
-use Rattle.fibs_commands.specs.PlainCommands.{plain_fault_of}
+use Rattle.fibs_commands.specs.PlainCommands.{PlainValue, first_of, name_fault, text_fault, points_fault, is_printed, plain_fault_of}
 use Rattle.fibs_commands.specs.declared.plain.PlainFault.{PlainFault}
 use Rattle.fibs_commands.specs.declared.plain.PlainFault.TheVariants.{BadName, BadText, TooLong}
 

@@ -1,7 +1,5 @@
 -- A text is read as a decision exactly if it is the command of that one.
-use Rattle.std.proofs.Common.{◌≡◌, ◌≢◌, ℕ, ◌+◌, ◌^◌, ◌<◌, ◌≤◌, ◌==◌, ◌&&◌, ◌↔◌, Bool, true, false, cond}
-use Rattle.std.proofs.Common.{nat_le, nat_lt, List, [], ◌∷◌, ◌++◌, length, map, codes, decimal, Option}
-use Rattle.std.proofs.Common.{Some, None, option_map, refl, ap, sym, ◌∙◌, subst, arith, append_assoc, append-nil}
+use Rattle.std.proofs.Common.{◌≡◌, ◌≢◌, ℕ, ◌+◌, ◌^◌, ◌<◌, ◌≤◌, ◌==◌, ◌&&◌, ◌↔◌, Bool, true, false, cond, nat_le, nat_lt, List, [], ◌∷◌, ◌++◌, length, map, codes, decimal, Option, Some, None, option_map, refl, ap, sym, ◌∙◌, subst, arith, append_assoc, append-nil}
 use Rattle.std.specs.Prelude.{All}
 use Rattle.std.specs.List.{flat_map, join_with_byte}
 use Rattle.std.specs.Str.{bytes_eq}
@@ -15,19 +13,15 @@ use Rattle.fibs_fields.specs.Decimal.{decimal_up_to}
 use Rattle.fibs_fields.specs.Split.{before, after}
 use Rattle.fibs_rules.specs.Hop.{Hop, IsStep}
 use Rattle.fibs_position.specs.DirectionOf.{line_place}
-use Rattle.fibs_position.specs.DecisionValue.{DecisionValue, roll, double, accept, reject, move, resign}
-use Rattle.fibs_position.specs.DecisionValue.{IsDecision}
+use Rattle.fibs_position.specs.DecisionValue.{DecisionValue, roll, double, accept, reject, move, resign, IsDecision}
 use Rattle.fibs_position.specs.declared.direction.Direction.{Direction}
 use Rattle.fibs_position.specs.declared.direction.Direction.TheVariants.{Down, Up}
 use Rattle.fibs_position.specs.declared.stake.Stake.{Stake}
 use Rattle.fibs_position.specs.declared.stake.Stake.TheVariants.{Normal, Gammon, Backgammon}
 use Rattle.fibs_commands.specs.Commands.{place_text, step_text, steps_text, stake_text, command_of}
-use Rattle.fibs_commands.specs.CommandReading.{ReadCommand, numbered_place, place_in, place_after, step_between}
-use Rattle.fibs_commands.specs.CommandReading.{step_in, step_then, steps_in, play_from, words_after, stake_in}
-use Rattle.fibs_commands.specs.CommandReading.{stake_after, turn_in, turn_alone, decision_in, read_command}
+use Rattle.fibs_commands.specs.CommandReading.{ReadCommand, numbered_place, place_in, place_after, step_between, step_in, step_then, steps_in, play_from, words_after, stake_in, stake_after, turn_in, turn_alone, decision_in, read_command}
 use Rattle.fibs_commands.specs.CommandLaws.{ReadCommandIsExact}
-use Rattle.fibs_commands.proofs.PlaceLemmas.{place_cases, on_bar, borne_off, numbered, place_number}
-use Rattle.fibs_commands.proofs.PlaceLemmas.{word_differs}
+use Rattle.fibs_commands.proofs.PlaceLemmas.{place_cases, on_bar, borne_off, numbered, place_number, word_differs}
 use Rattle.fibs_commands.proofs.StepLemmas.{place_no_dash, step_no_space}
 use Rattle.fibs_commands.proofs.SplitLemmas.{from, before_and_from, split_there, words_of}
 

@@ -1,7 +1,5 @@
 -- A text is read as a plain command exactly if the relation says so.
-use Rattle.std.proofs.Common.{◌≡◌, ◌≢◌, ℕ, ◌≤◌, ◌==◌, ◌&&◌, Bool, true, false, cond, not, nat_le, nat_lt}
-use Rattle.std.proofs.Common.{List, [], ◌∷◌, ◌++◌, length, codes, decimal, Option, Some, None, option_map, refl, ap}
-use Rattle.std.proofs.Common.{sym, ◌∙◌, subst, arith, append-nil}
+use Rattle.std.proofs.Common.{◌≡◌, ◌≢◌, ℕ, ◌≤◌, ◌==◌, ◌&&◌, Bool, true, false, cond, not, nat_le, nat_lt, List, [], ◌∷◌, ◌++◌, length, codes, decimal, Option, Some, None, option_map, refl, ap, sym, ◌∙◌, subst, arith, append-nil}
 use Rattle.std.specs.List.{list_all}
 use Rattle.std.specs.Option.{option_or}
 use Rattle.std.specs.Str.{bytes_eq}
@@ -11,16 +9,8 @@ use Rattle.std.proofs.lemmas.Slice.Eq.{bytes_eq-Decides}
 use Rattle.fibs_fields.specs.Decimal.{decimal_up_to}
 use Rattle.fibs_fields.specs.Name.{is_name, is_name_byte}
 use Rattle.fibs_fields.specs.Split.{before, after}
-use Rattle.fibs_commands.specs.PlainCommands.{PlainValue, board_again, who, say, tell, shout, whisper, kibitz}
-use Rattle.fibs_commands.specs.PlainCommands.{leave_message, invite, invite_to, join, join_with, toggle_ready}
-use Rattle.fibs_commands.specs.PlainCommands.{automove_off, greedy_off, bye, plain_of, plain_fault_of}
-use Rattle.fibs_commands.specs.PlainReading.{NoSpace, TextField, no_text, rest_of_line, NameAndText, no_name, name_then}
-use Rattle.fibs_commands.specs.PlainReading.{ReadsAs, reads_board, reads_who, reads_bye, reads_say, reads_shout}
-use Rattle.fibs_commands.specs.PlainReading.{reads_whisper, reads_kibitz, reads_tell, reads_message, reads_invite}
-use Rattle.fibs_commands.specs.PlainReading.{reads_invite_of, reads_invite_to, reads_join, reads_join_with, reads_ready}
-use Rattle.fibs_commands.specs.PlainReading.{reads_automove, reads_greedy, text_in, name_in, after_name, alone_in}
-use Rattle.fibs_commands.specs.PlainReading.{saying_in, letter_in, invitation_in, only, joining_in, toggle_in, plain_in}
-use Rattle.fibs_commands.specs.PlainReading.{read_plain}
+use Rattle.fibs_commands.specs.PlainCommands.{PlainValue, board_again, who, say, tell, shout, whisper, kibitz, leave_message, invite, invite_to, join, join_with, toggle_ready, automove_off, greedy_off, bye, plain_of, plain_fault_of}
+use Rattle.fibs_commands.specs.PlainReading.{NoSpace, TextField, no_text, rest_of_line, NameAndText, no_name, name_then, ReadsAs, reads_board, reads_who, reads_bye, reads_say, reads_shout, reads_whisper, reads_kibitz, reads_tell, reads_message, reads_invite, reads_invite_of, reads_invite_to, reads_join, reads_join_with, reads_ready, reads_automove, reads_greedy, text_in, name_in, after_name, alone_in, saying_in, letter_in, invitation_in, only, joining_in, toggle_in, plain_in, read_plain}
 use Rattle.fibs_commands.specs.CommandLaws.{ReadPlainIsExact, PlainReadsBack}
 use Rattle.fibs_commands.proofs.PlainTexts.{name_in_it, both_in_it, points_in_it}
 use Rattle.fibs_commands.proofs.PrintedLemmas.{bytes_from}

@@ -1,7 +1,5 @@
 -- Every command is sent as the one line that it is.
-use Rattle.std.proofs.Common.{◌≡◌, ◌≢◌, ℕ, ◌+◌, ◌≤◌, ◌&&◌, true, false, nat_le, nat_lt}
-use Rattle.std.proofs.Common.{nat_eq, List, [], ◌∷◌, ◌++◌, length, codes, decimal, refl, ap, ◌∙◌, arith, rules}
-use Rattle.std.proofs.Common.{length-append}
+use Rattle.std.proofs.Common.{◌≡◌, ◌≢◌, ℕ, ◌+◌, ◌≤◌, ◌&&◌, true, false, nat_le, nat_lt, nat_eq, List, [], ◌∷◌, ◌++◌, length, codes, decimal, refl, ap, ◌∙◌, arith, rules, length-append}
 use Rattle.std.specs.Prelude.{All}
 use Rattle.std.specs.List.{list_all, starts_with}
 use Rattle.std.proofs.lemmas.Bool.{and_parts}
@@ -17,12 +15,8 @@ use Rattle.fibs_position.specs.DecisionValue.{roll, double, accept, reject, move
 use Rattle.fibs_commands.specs.Commands.{command_of, stake_text, steps_text}
 use Rattle.fibs_commands.specs.FirstCommands.{style_text, autoboard_text, moreboards_text, board_text}
 use Rattle.fibs_commands.specs.Logins.{login_text, is_password, is_password_byte}
-use Rattle.fibs_commands.specs.PlainCommands.{board_again, who, say, tell, shout, whisper, kibitz}
-use Rattle.fibs_commands.specs.PlainCommands.{leave_message, invite, invite_to, join, join_with, toggle_ready}
-use Rattle.fibs_commands.specs.PlainCommands.{automove_off, greedy_off, bye, plain_of, plain_fault_of}
-use Rattle.fibs_commands.specs.PlainCommands.{is_text_byte}
-use Rattle.fibs_commands.specs.CommandLaws.{CommandsAreShort, CommandsArePrinted, IsSent, DecisionsAreSent, PlainIsSent}
-use Rattle.fibs_commands.specs.CommandLaws.{LoginsAreSent, FirstAreSent}
+use Rattle.fibs_commands.specs.PlainCommands.{board_again, who, say, tell, shout, whisper, kibitz, leave_message, invite, invite_to, join, join_with, toggle_ready, automove_off, greedy_off, bye, plain_of, plain_fault_of, is_text_byte}
+use Rattle.fibs_commands.specs.CommandLaws.{CommandsAreShort, CommandsArePrinted, IsSent, DecisionsAreSent, PlainIsSent, LoginsAreSent, FirstAreSent}
 use Rattle.fibs_commands.proofs.PlainTexts.{IsText, name_in_it, text_in_it, both_in_it, points_in_it}
 use Rattle.fibs_commands.proofs.PrintedLemmas.{bytes_printed, name_is_printed, secret_is_printed}
 

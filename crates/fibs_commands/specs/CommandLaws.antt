@@ -3,8 +3,7 @@ use Rattle.std.specs.Prelude.{◌≡◌, ◌↔◌, ◌≤◌, ◌<◌, ℕ, fal
 use Rattle.fibs_lines.specs.Lines.{lines_of}
 use Rattle.fibs_lines.specs.StreamLaws.{IsSendable, with_line_end}
 use Rattle.fibs_fields.specs.Printed.{IsPrinted}
-use Rattle.fibs_position.specs.DecisionValue.{DecisionValue, roll, double, accept, reject, move, resign}
-use Rattle.fibs_position.specs.DecisionValue.{IsDecision}
+use Rattle.fibs_position.specs.DecisionValue.{DecisionValue, roll, double, accept, reject, move, resign, IsDecision}
 use Rattle.fibs_position.specs.declared.direction.Direction.{Direction}
 use Rattle.fibs_position.specs.declared.direction.Direction.TheVariants.{Down, Up}
 use Rattle.fibs_commands.specs.Commands.{command_of}

@@ -1,14 +1,12 @@
 -- Which decision a command is: as a relation, and as a function by the words between its spaces.
-use Rattle.std.specs.Prelude.{◌≡◌, ◌==◌, ◌+◌, ◌&&◌, ℕ, List, [], ◌∷◌, ◌++◌, Option, None, Some, cond, codes, length}
-use Rattle.std.specs.Prelude.{nat_le, nat_lt, option_map}
+use Rattle.std.specs.Prelude.{◌≡◌, ◌==◌, ◌+◌, ◌&&◌, ℕ, List, [], ◌∷◌, ◌++◌, Option, None, Some, cond, codes, length, nat_le, nat_lt, option_map}
 use Rattle.std.specs.List.{slice_split}
 use Rattle.std.specs.Str.{bytes_eq}
 use Rattle.fibs_fields.specs.Decimal.{decimal_up_to}
 use Rattle.fibs_fields.specs.Split.{before, after}
 use Rattle.fibs_rules.specs.Hop.{Hop}
 use Rattle.fibs_position.specs.DirectionOf.{line_place}
-use Rattle.fibs_position.specs.DecisionValue.{DecisionValue, roll, double, accept, reject, move, resign}
-use Rattle.fibs_position.specs.DecisionValue.{IsDecision}
+use Rattle.fibs_position.specs.DecisionValue.{DecisionValue, roll, double, accept, reject, move, resign, IsDecision}
 use Rattle.fibs_position.specs.declared.direction.Direction.{Direction}
 use Rattle.fibs_position.specs.declared.stake.Stake.{Stake}
 use Rattle.fibs_position.specs.declared.stake.Stake.TheVariants.{Normal, Gammon, Backgammon}

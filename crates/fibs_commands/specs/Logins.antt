@@ -1,6 +1,5 @@
 -- The command by which a user logs in (CLIP 1008), and what is wrong with a name and a password.
-use Rattle.std.specs.Prelude.{◌≡◌, ◌++◌, ◌&&◌, ℕ, Bool, true, List, ◌∷◌, Option, None, Some, cond, codes, length}
-use Rattle.std.specs.Prelude.{nat_le, nat_lt}
+use Rattle.std.specs.Prelude.{◌≡◌, ◌++◌, ◌&&◌, ℕ, Bool, true, List, ◌∷◌, Option, None, Some, cond, codes, length, nat_le, nat_lt}
 use Rattle.std.specs.List.{list_all}
 use Rattle.fibs_fields.specs.Name.{is_name}
 use Rattle.fibs_commands.specs.PlainCommands.{first_of, name_fault}

@@ -1,7 +1,6 @@
 -- The commands of a player that decide nothing in the game, as the FIBS server reads them, and what is wrong with one
 -- that has no text.
-use Rattle.std.specs.Prelude.{◌++◌, ◌&&◌, ℕ, Bool, List, ◌∷◌, Option, None, Some, cond, codes, decimal, length, nat_le}
-use Rattle.std.specs.Prelude.{nat_lt}
+use Rattle.std.specs.Prelude.{◌++◌, ◌&&◌, ℕ, Bool, List, ◌∷◌, Option, None, Some, cond, codes, decimal, length, nat_le, nat_lt}
 use Rattle.std.specs.List.{list_all}
 use Rattle.fibs_fields.specs.Name.{is_name}
 use Rattle.fibs_commands.specs.declared.plain.PlainFault.{PlainFault}

@@ -1,12 +1,8 @@
 -- Plain commands of the program as values.
 use Rattle.std.specs.Prelude.{Some, None}
-use Rattle.fibs_commands.specs.PlainCommands.{PlainValue, board_again, who, say, tell, shout, whisper, kibitz}
-use Rattle.fibs_commands.specs.PlainCommands.{leave_message, invite, invite_to, join, join_with, toggle_ready}
-use Rattle.fibs_commands.specs.PlainCommands.{automove_off, greedy_off, bye}
+use Rattle.fibs_commands.specs.PlainCommands.{PlainValue, board_again, who, say, tell, shout, whisper, kibitz, leave_message, invite, invite_to, join, join_with, toggle_ready, automove_off, greedy_off, bye}
 use Rattle.fibs_commands.specs.declared.plain.Plain.{Plain}
-use Rattle.fibs_commands.specs.declared.plain.Plain.TheVariants.{Board, Who, Say, Tell, Shout, Whisper, Kibitz}
-use Rattle.fibs_commands.specs.declared.plain.Plain.TheVariants.{Message, Invite, Join, ToggleReady}
-use Rattle.fibs_commands.specs.declared.plain.Plain.TheVariants.{AutomoveOff, GreedyOff, Bye}
+use Rattle.fibs_commands.specs.declared.plain.Plain.TheVariants.{Board, Who, Say, Tell, Shout, Whisper, Kibitz, Message, Invite, Join, ToggleReady, AutomoveOff, GreedyOff, Bye}
 
 -- what the command says, with no address in it
 abbrev pub plain_value : Plain → PlainValue

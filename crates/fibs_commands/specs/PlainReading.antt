@@ -1,13 +1,10 @@
 -- Which plain command a text is: as a relation over all texts, and as a function by the first word and what follows it.
-use Rattle.std.specs.Prelude.{◌≢◌, ◌≤◌, ◌++◌, ℕ, List, [], ◌∷◌, Option, None, Some, All, cond, codes, decimal}
-use Rattle.std.specs.Prelude.{option_map}
+use Rattle.std.specs.Prelude.{◌≢◌, ◌≤◌, ◌++◌, ℕ, List, [], ◌∷◌, Option, None, Some, All, cond, codes, decimal, option_map}
 use Rattle.std.specs.Option.{option_or}
 use Rattle.std.specs.Str.{bytes_eq}
 use Rattle.fibs_fields.specs.Decimal.{decimal_up_to}
 use Rattle.fibs_fields.specs.Split.{before, after}
-use Rattle.fibs_commands.specs.PlainCommands.{PlainValue, board_again, who, say, tell, shout, whisper, kibitz}
-use Rattle.fibs_commands.specs.PlainCommands.{leave_message, invite, invite_to, join, join_with, toggle_ready}
-use Rattle.fibs_commands.specs.PlainCommands.{automove_off, greedy_off, bye}
+use Rattle.fibs_commands.specs.PlainCommands.{PlainValue, board_again, who, say, tell, shout, whisper, kibitz, leave_message, invite, invite_to, join, join_with, toggle_ready, automove_off, greedy_off, bye}
 
 -- a name ends at the next space, so it has no space in it; it may be empty
 abbrev pub NoSpace : List ℕ → Type 0

@@ -3,12 +3,10 @@
 ghost use Rattle.std.specs.Prelude.{◌≡◌, ◌≤◌, ◌↔◌, [], IfSome, option_map, Some};
 ghost use Rattle.fibs_fields.specs.Decimal.{decimal_up_to};
 ghost use Rattle.fibs_fields.specs.Split.{seen};
-ghost use Rattle.fibs_position.specs.DecisionValue.{decision_of};
-ghost use Rattle.fibs_position.specs.DecisionValue.{DecisionValue};
+ghost use Rattle.fibs_position.specs.DecisionValue.{decision_of, DecisionValue};
 ghost use Rattle.fibs_rules.specs.PlayValue.{hops_of};
 ghost use Rattle.fibs_rules.specs.Hop.{hop_of};
-ghost use Rattle.fibs_commands.specs.CommandReading.{ReadCommand, numbered_place, place_in, step_in, play_from};
-ghost use Rattle.fibs_commands.specs.CommandReading.{words_after, stake_in, turn_in, read_command};
+ghost use Rattle.fibs_commands.specs.CommandReading.{ReadCommand, numbered_place, place_in, step_in, play_from, words_after, stake_in, turn_in, read_command};
 
 use super::decisions::{BAR, OFF};
 use crate::laws::read_command_is_exact;

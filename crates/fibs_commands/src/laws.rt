@@ -1,10 +1,6 @@
 //! Laws of the commands.
 
-ghost use Rattle.fibs_commands.specs.CommandLaws.{CommandsTellDecisions, CommandsAreShort, CommandsArePrinted};
-ghost use Rattle.fibs_commands.specs.CommandLaws.{PlainInBothDirections, ReadCommandIsExact, ReadPlainIsExact};
-ghost use Rattle.fibs_commands.specs.CommandLaws.{PlainReadsBack, DecisionsAreSent, PlainIsSent, LoginsAreSent};
-ghost use Rattle.fibs_commands.specs.CommandLaws.{FirstAreSent, PlainIsOther, LoginIsOther, StyleIsOther};
-ghost use Rattle.fibs_commands.specs.CommandLaws.{InitialAreOther};
+ghost use Rattle.fibs_commands.specs.CommandLaws.{CommandsTellDecisions, CommandsAreShort, CommandsArePrinted, PlainInBothDirections, ReadCommandIsExact, ReadPlainIsExact, PlainReadsBack, DecisionsAreSent, PlainIsSent, LoginsAreSent, FirstAreSent, PlainIsOther, LoginIsOther, StyleIsOther, InitialAreOther};
 ghost use Rattle.fibs_commands.specs.PlainOf.{plain_value};
 ghost use Rattle.fibs_commands.specs.TextOf.{text_of};
 ghost use Rattle.std.specs.Prelude.{◌≡◌, ◌↔◌, IsTrue};

@@ -3,8 +3,7 @@
 ghost use Rattle.std.specs.Prelude.{◌≡◌, ◌≤◌, ◌++◌, ◌∷◌, Some, IfOk, codes, decimal, length, true};
 ghost use Rattle.std.specs.Result.{result_err};
 ghost use Rattle.fibs_fields.specs.Name.{is_name};
-ghost use Rattle.fibs_commands.specs.PlainCommands.{first_of, is_printed, points_fault, name_fault, text_fault};
-ghost use Rattle.fibs_commands.specs.PlainCommands.{plain_of, plain_fault_of};
+ghost use Rattle.fibs_commands.specs.PlainCommands.{first_of, is_printed, points_fault, name_fault, text_fault, plain_of, plain_fault_of};
 ghost use Rattle.fibs_commands.specs.PlainOf.{plain_value};
 ghost use Rattle.fibs_commands.specs.TextOf.{text_of};
 

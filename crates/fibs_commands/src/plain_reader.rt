@@ -5,8 +5,7 @@ ghost use Rattle.fibs_fields.specs.Decimal.{decimal_up_to};
 ghost use Rattle.fibs_fields.specs.Split.{seen};
 ghost use Rattle.fibs_commands.specs.PlainCommands.{PlainValue};
 ghost use Rattle.fibs_commands.specs.PlainOf.{plain_value};
-ghost use Rattle.fibs_commands.specs.PlainReading.{ReadsAs, after_name, alone_in, invitation_in, joining_in, letter_in};
-ghost use Rattle.fibs_commands.specs.PlainReading.{name_in, plain_in, read_plain, saying_in, text_in, toggle_in};
+ghost use Rattle.fibs_commands.specs.PlainReading.{ReadsAs, after_name, alone_in, invitation_in, joining_in, letter_in, name_in, plain_in, read_plain, saying_in, text_in, toggle_in};
 
 use super::plain::Plain;
 use crate::laws::read_plain_is_exact;

@@ -6,11 +6,8 @@ use Rattle.std.proofs.Common.{sym, subst}
 use Rattle.std.proofs.KnownBytes.{Appends-nil, Appends-trans}
 use Rattle.std.proofs.lemmas.List.Concat.{flat_map-append}
 use Rattle.fibs_position.specs.Names.{phase_name}
-use Rattle.fibs_connect.specs.Told.{SaidValue, opened_said, no_connection_said, heard_said, phase_said, confirmed_said}
-use Rattle.fibs_connect.specs.Told.{sent_said, rolled_said, passed_said, ordered_said, withdrawn_said, refused_said}
-use Rattle.fibs_connect.specs.Told.{not_sent_said, unknown_said, lost_said, unnoted_said, player_said}
-use Rattle.fibs_connect.specs.Lines.{text_of_lines, heard_text, confirmed_line, lost_line, refused_line, plain_line}
-use Rattle.fibs_connect.specs.Lines.{unnoted_line, player_line}
+use Rattle.fibs_connect.specs.Told.{SaidValue, opened_said, no_connection_said, heard_said, phase_said, confirmed_said, sent_said, rolled_said, passed_said, ordered_said, withdrawn_said, refused_said, not_sent_said, unknown_said, lost_said, unnoted_said, player_said}
+use Rattle.fibs_connect.specs.Lines.{text_of_lines, heard_text, confirmed_line, lost_line, refused_line, plain_line, unnoted_line, player_line}
 
 -- the lines of each: one, but none for a connection that was made. Only a person sees why no connection can be made,
 -- and what was sent as it is: the account gives no reason for the one, and no line for the other

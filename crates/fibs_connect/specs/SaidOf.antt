@@ -9,9 +9,7 @@ use Rattle.fibs_messages.specs.Directory.View.{player_value}
 use Rattle.fibs_session.specs.Calls.SessionOf.{ask_of}
 use Rattle.fibs_connect.specs.declared.said.Said.{Said}
 use Rattle.fibs_connect.specs.declared.said.Said.TheVariants as S
-use Rattle.fibs_connect.specs.Told.{SaidValue, opened_said, no_connection_said, heard_said, phase_said, confirmed_said}
-use Rattle.fibs_connect.specs.Told.{sent_said, rolled_said, passed_said, ordered_said, withdrawn_said, refused_said}
-use Rattle.fibs_connect.specs.Told.{not_sent_said, unknown_said, lost_said, unnoted_said, player_said}
+use Rattle.fibs_connect.specs.Told.{SaidValue, opened_said, no_connection_said, heard_said, phase_said, confirmed_said, sent_said, rolled_said, passed_said, ordered_said, withdrawn_said, refused_said, not_sent_said, unknown_said, lost_said, unnoted_said, player_said}
 
 abbrev pub said_of : Said → SaidValue
 said_of S.Opened = opened_said

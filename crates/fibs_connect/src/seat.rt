@@ -2,9 +2,7 @@
 ghost use Rattle.std.specs.Prelude.{◌≡◌, ◌≤◌, ◌∷◌, [], Some, length, true, false, IfOk, OnOk, IsSome};
 ghost use Rattle.fibs_messages.specs.Directory.{IsDirectory};
 ghost use Rattle.fibs_connect.specs.Turns.Turn.{FitsStream, bytes_of, is_there};
-ghost use Rattle.fibs_connect.specs.Converse.Seats.{Answered, Connects, Opens, OpensAndLoses};
-ghost use Rattle.fibs_connect.specs.Converse.Seats.{Passes, PassesOn, Refuses};
-ghost use Rattle.fibs_connect.specs.Converse.Seats.{TakesTurn, seat_of};
+ghost use Rattle.fibs_connect.specs.Converse.Seats.{Answered, Connects, Opens, OpensAndLoses, Passes, PassesOn, Refuses, TakesTurn, seat_of};
 ghost use Rattle.fibs_connect.specs.Told.{opened_said};
 ghost use Rattle.fibs_connect.specs.Wishes.{wish_value};
 

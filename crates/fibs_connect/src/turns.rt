@@ -1,14 +1,12 @@
 //! One turn of a client with its stream.
 
-ghost use Rattle.std.specs.Prelude.{◌≡◌, List, None, true, false};
-ghost use Rattle.std.specs.Prelude.{IfOk, OnErr};
+ghost use Rattle.std.specs.Prelude.{◌≡◌, List, None, true, false, IfOk, OnErr};
 ghost use Rattle.fibs_session.specs.History.Machine.{Talk, is_online};
 ghost use Rattle.fibs_session.specs.Calls.Standing.{StandsAfter};
 ghost use Rattle.fibs_messages.specs.Message.{MessageValue};
 ghost use Rattle.fibs_connect.specs.Turns.Answering.{Listened};
 ghost use Rattle.fibs_connect.specs.Turns.Script.{outside, known_before, known_after};
-ghost use Rattle.fibs_connect.specs.Turns.Turn.{Turned, TurnedBy, Stopped, FitsStream};
-ghost use Rattle.fibs_connect.specs.Turns.Turn.{bytes_of, is_there, still_given};
+ghost use Rattle.fibs_connect.specs.Turns.Turn.{Turned, TurnedBy, Stopped, FitsStream, bytes_of, is_there, still_given};
 ghost use Rattle.fibs_engine.specs.Reads.{LostAtMost, turn_limit};
 
 mod hearing;

@@ -1,6 +1,5 @@
 -- What is printed for a stream, one portion after the other.
-use Rattle.std.proofs.Common.{◌≡◌, ℕ, ◌≤◌, List, [], ◌∷◌, ◌++◌, Option, Some, refl, sym, ap, subst, ◌∙◌, take, drop}
-use Rattle.std.proofs.Common.{append_assoc, append-nil, length, ◌≢◌, min, arith, ◌<◌, ◌+◌, ◌-◌, ◌*◌, length-append}
+use Rattle.std.proofs.Common.{◌≡◌, ℕ, ◌≤◌, List, [], ◌∷◌, ◌++◌, Option, Some, refl, sym, ap, subst, ◌∙◌, take, drop, append_assoc, append-nil, length, ◌≢◌, min, arith, ◌<◌, ◌+◌, ◌-◌, ◌*◌, length-append}
 use Rattle.std.proofs.lemmas.List.{length-take, take_rest}
 use Rattle.std.proofs.Math.Seq.{take-add}
 use Rattle.std.proofs.Math.Nat.{mul-le-mul_right}
@@ -13,8 +12,7 @@ use Rattle.fibs_lines.specs.Feeding.{Feeds, lent_lines}
 use Rattle.fibs_lines.specs.declared.lines.Fed.{Fed}
 use Rattle.fibs_lines.specs.declared.line.Line.{Line}
 use Rattle.fibs_engine.specs.Reads.{LostAtMost}
-use Rattle.fibs_engine.specs.Streams.{LinePrinting, LinesText, StreamText, Gains, EndText, WroteAll}
-use Rattle.fibs_engine.specs.Streams.{WroteLinesOf, WroteFront}
+use Rattle.fibs_engine.specs.Streams.{LinePrinting, LinesText, StreamText, Gains, EndText, WroteAll, WroteLinesOf, WroteFront}
 use Rattle.fibs_engine.specs.Writing.{GainedFront}
 use Rattle.fibs_engine.proofs.WriteLemmas.{front_after, front_of_more}
 

@@ -1,6 +1,5 @@
 -- Where writing stopped.
-use Rattle.std.proofs.Common.{◌≡◌, ℕ, false, List, [], ◌∷◌, ◌++◌, length, Option, Result, Ok, Err, IsErr, subst}
-use Rattle.std.proofs.Common.{append-nil, ap, sym, ◌∙◌, append_assoc, take, drop, take-append-drop}
+use Rattle.std.proofs.Common.{◌≡◌, ℕ, false, List, [], ◌∷◌, ◌++◌, length, Option, Result, Ok, Err, IsErr, subst, append-nil, ap, sym, ◌∙◌, append_assoc, take, drop, take-append-drop}
 use Rattle.std.specs.Prelude.{◌==◌, ⊤}
 use Rattle.std.specs.Io.KnownBytes.{Appends, Keeps}
 use Rattle.std.proofs.KnownBytes.{Appends-trans, Appends-kept}

@@ -1,7 +1,5 @@
 -- Boards of FIBS board style 3: the 53 fields of a board line, its spelling, and its first wrong field.
-use Rattle.std.specs.Prelude.{◌≡◌, ◌==◌, ◌&&◌, ◌-◌, ◌++◌, ℕ, Bool, true, false, cond, List, [], ◌∷◌, Option, Some, None}
-use Rattle.std.specs.Prelude.{ℤ, pos, negsuc, map, codes, replicate, nat_le, slice_get, slice_set}
-use Rattle.std.specs.Prelude.{slice_index_or}
+use Rattle.std.specs.Prelude.{◌≡◌, ◌==◌, ◌&&◌, ◌-◌, ◌++◌, ℕ, Bool, true, false, cond, List, [], ◌∷◌, Option, Some, None, ℤ, pos, negsuc, map, codes, replicate, nat_le, slice_get, slice_set, slice_index_or}
 use Rattle.fibs_fields.specs.Spaces.{without_spaces}
 use Rattle.std.specs.List.{AllZip, slice_split, join_with_byte}
 use Rattle.std.specs.Fmt.{signed_decimal}

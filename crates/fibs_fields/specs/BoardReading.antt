@@ -1,6 +1,5 @@
 -- How the fields of a board line are gone through, from the left. Of what is public only `reading_value` rests on it.
-use Rattle.std.specs.Prelude.{◌≡◌, ◌+◌, ◌++◌, ℕ, ℤ, true, List, [], ◌∷◌, Option}
-use Rattle.std.specs.Prelude.{Some, None, codes, drop, map, slice_get}
+use Rattle.std.specs.Prelude.{◌≡◌, ◌+◌, ◌++◌, ℕ, ℤ, true, List, [], ◌∷◌, Option, Some, None, codes, drop, map, slice_get}
 use Rattle.std.specs.Fmt.{signed_decimal}
 use Rattle.fibs_fields.specs.Board.{allowed_by, field_values, kinds, pieces}
 use Rattle.fibs_fields.specs.Field.{Kind, a_number_of, fault_in, fault_between}

@@ -1,6 +1,5 @@
 -- The numbers of a line, as they are spelled, and what a field may have.
-use Rattle.std.specs.Prelude.{◌==◌, ◌&&◌, ◌||◌, ◌^◌, ℕ, Bool, cond, not, List, Option, Some, None, Result, Ok, Err, ℤ}
-use Rattle.std.specs.Prelude.{pos, neg_ℤ, drop, length, nat_le, nat_lt, slice_index, int_le}
+use Rattle.std.specs.Prelude.{◌==◌, ◌&&◌, ◌||◌, ◌^◌, ℕ, Bool, cond, not, List, Option, Some, None, Result, Ok, Err, ℤ, pos, neg_ℤ, drop, length, nat_le, nat_lt, slice_index, int_le}
 use Rattle.std.specs.Ordering.{int_eq}
 use Rattle.std.specs.Char.{is_ascii_digit}
 use Rattle.std.specs.List.{list_all}

@@ -1,6 +1,5 @@
 -- The fields of a board and of a message: their kinds, how a value is spelled, and what is wrong with other texts.
-use Rattle.std.specs.Prelude.{◌≡◌, ℕ, ◌+◌, ◌-◌, ◌<◌, Bool, true, false, List, [], ◌∷◌, Option, Some, None, decimal, pos}
-use Rattle.std.specs.Prelude.{slice_get, if◌then◌else◌, cond}
+use Rattle.std.specs.Prelude.{◌≡◌, ℕ, ◌+◌, ◌-◌, ◌<◌, Bool, true, false, List, [], ◌∷◌, Option, Some, None, decimal, pos, slice_get, if◌then◌else◌, cond}
 use Rattle.std.specs.Result.{result_err}
 use Rattle.std.specs.Str.{bytes_eq}
 use Rattle.fibs_fields.specs.declared.fault.Fault.{Fault}

@@ -1,15 +1,12 @@
 -- How fields are read one after another. Of what is public only the function `reading_value` rests on it.
-use Rattle.std.specs.Prelude.{◌≡◌, ℕ, ◌+◌, ◌==◌, Bool, List, [], ◌∷◌, Option, Some, None, Result, Ok, Err, ℤ, pos}
-use Rattle.std.specs.Prelude.{negsuc, cond, if◌then◌else◌}
+use Rattle.std.specs.Prelude.{◌≡◌, ℕ, ◌+◌, ◌==◌, Bool, List, [], ◌∷◌, Option, Some, None, Result, Ok, Err, ℤ, pos, negsuc, cond, if◌then◌else◌}
 use Rattle.std.specs.Str.{bytes_eq}
 use Rattle.fibs_fields.specs.declared.fault.FieldFault.{FieldFault}
 use Rattle.fibs_fields.specs.declared.fault.Fault.{Fault}
 use Rattle.fibs_fields.specs.declared.fault.Fault.TheVariants.{Missing, Extra, BadName}
 use Rattle.fibs_fields.specs.declared.reader.Fields.{Fields}
 use Rattle.fibs_fields.specs.Decimal.{number_in}
-use Rattle.fibs_fields.specs.Field.{Kind, the_word, a_number_of, a_name, a_word, a_tail, a_flag, a_number, a_rating}
-use Rattle.fibs_fields.specs.Field.{a_text, FieldValue, NameField, WordField, TailField, FlagField, NumberField}
-use Rattle.fibs_fields.specs.Field.{RatingField, TextField, takes_rest, may_be_absent, flag_values, number_values}
+use Rattle.fibs_fields.specs.Field.{Kind, the_word, a_number_of, a_name, a_word, a_tail, a_flag, a_number, a_rating, a_text, FieldValue, NameField, WordField, TailField, FlagField, NumberField, RatingField, TextField, takes_rest, may_be_absent, flag_values, number_values}
 use Rattle.fibs_fields.specs.Name.{is_name}
 use Rattle.fibs_fields.specs.Rating.{rating_in}
 use Rattle.fibs_fields.specs.Split.{before, after, seen}

@@ -1,15 +1,12 @@
 //! Numbers, as they are spelled.
 
-ghost use Rattle.std.specs.Prelude.{◌≡◌, ◌↔◌, ◌-◌, ◌≤◌, ◌&&◌, ◌||◌, ℕ, cond, decimal, length, min, nat_le, pos, true};
-ghost use Rattle.std.specs.Prelude.{drop, take, [], ◌∷◌, ◌++◌, option_map, Some, None, MatchOption, OnOk};
-ghost use Rattle.std.specs.Prelude.{if◌then◌else◌};
+ghost use Rattle.std.specs.Prelude.{◌≡◌, ◌↔◌, ◌-◌, ◌≤◌, ◌&&◌, ◌||◌, ℕ, cond, decimal, length, min, nat_le, pos, true, drop, take, [], ◌∷◌, ◌++◌, option_map, Some, None, MatchOption, OnOk, if◌then◌else◌};
 ghost use Rattle.std.specs.Char.{is_ascii_digit};
 ghost use Rattle.std.specs.List.{list_all, prefix_len};
 ghost use Rattle.std.specs.Str.Parse.{digits_value, starts_with_minus};
 ghost use Rattle.fibs_fields.specs.Field.{flag_values, number_values};
 ghost use Rattle.fibs_fields.specs.FieldReading.{Gives};
-ghost use Rattle.fibs_fields.specs.Decimal.{is_positive, is_zero, decimal_up_to, decimal_value, number_if_allowed};
-ghost use Rattle.fibs_fields.specs.Decimal.{numbers_of_32_bits, numbers_of_64_bits, number_in};
+ghost use Rattle.fibs_fields.specs.Decimal.{is_positive, is_zero, decimal_up_to, decimal_value, number_if_allowed, numbers_of_32_bits, numbers_of_64_bits, number_in};
 ghost use Rattle.fibs_fields.specs.DecimalReading.{IsNarrow, capped, unsigned_value};
 
 use crate::fault::Fault;

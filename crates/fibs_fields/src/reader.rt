@@ -1,8 +1,7 @@
 //! The fields of a line, read from left to right.
 
 ghost use Rattle.std.specs.Prelude.{◌≡◌, ℕ, [], Ok};
-ghost use Rattle.fibs_fields.specs.Field.{NameField, WordField, TailField, FlagField, NumberField, RatingField};
-ghost use Rattle.fibs_fields.specs.Field.{TextField, a_name, a_word, a_tail, a_flag, a_number, a_rating, a_text};
+ghost use Rattle.fibs_fields.specs.Field.{NameField, WordField, TailField, FlagField, NumberField, RatingField, TextField, a_name, a_word, a_tail, a_flag, a_number, a_rating, a_text};
 ghost use Rattle.fibs_fields.specs.FieldReading.{Gives, left, left_of, text_at, field_at, next_at, this_word, end_at};
 ghost use Rattle.fibs_fields.specs.Split.{seen};
 ghost use Rattle.fibs_fields.specs.Decimal.{number_in};

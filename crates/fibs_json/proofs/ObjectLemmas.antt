@@ -1,7 +1,5 @@
 -- The parts of an object, one after the other.
-use Rattle.std.proofs.Common.{◌≡◌, ◌≤◌, ◌+◌, ◌*◌, ℕ, Bool, true, false, List, [], ◌∷◌, ◌++◌, codes, map, sum, refl, sym}
-use Rattle.std.proofs.Common.{ap, subst, ◌∙◌, append_assoc, append-nil, arith, inl}
-use Rattle.std.proofs.Common.{take, get_or, ◌<◌, length}
+use Rattle.std.proofs.Common.{◌≡◌, ◌≤◌, ◌+◌, ◌*◌, ℕ, Bool, true, false, List, [], ◌∷◌, ◌++◌, codes, map, sum, refl, sym, ap, subst, ◌∙◌, append_assoc, append-nil, arith, inl, take, get_or, ◌<◌, length}
 use Rattle.std.specs.List.{flat_map, range_with_len}
 use Rattle.std.proofs.lemmas.List.{map-append, take_more}
 use Rattle.std.proofs.lemmas.List.FromFn.{map-range_with_len_more}
@@ -24,8 +22,7 @@ use Rattle.fibs_json.specs.Boards.{PositionMembers, position_members}
 use Rattle.fibs_json.specs.Columns.{NamedField, field_member, field_members, message_members, row_of}
 use Rattle.fibs_json.specs.Parts.{field_text}
 use Rattle.fibs_json.specs.Json.{Member, member, more_member, more_members, quoted, string, whole}
-use Rattle.fibs_json.specs.Lines.{HeardAs, HeardObject, LineObject, ObjectAs, ReadObject, ending, line_object}
-use Rattle.fibs_json.specs.Lines.{object_with, opening}
+use Rattle.fibs_json.specs.Lines.{HeardAs, HeardObject, LineObject, ObjectAs, ReadObject, ending, line_object, object_with, opening}
 
 -- the front of an object, its further members and its end are the object
 pub closed : (kind bytes : List ℕ) (ms : List Member)

@@ -1,18 +1,14 @@
 -- An object tells its line: what is in a string ends at the next quotation mark, and tells the bytes.
-use Rattle.std.proofs.Common.{◌≡◌, ◌/◌, ◌%◌, ◌==◌, ℕ, Bool, true, false, cond, List, [], ◌∷◌, ◌++◌, codes, drop}
-use Rattle.std.proofs.Common.{refl, sym, ap, ◌∙◌, append_assoc, arith, inl, inr}
+use Rattle.std.proofs.Common.{◌≡◌, ◌/◌, ◌%◌, ◌==◌, ℕ, Bool, true, false, cond, List, [], ◌∷◌, ◌++◌, codes, drop, refl, sym, ap, ◌∙◌, append_assoc, arith, inl, inr}
 use Rattle.std.proofs.lemmas.Bool.Decides.{nat_tests}
 use Rattle.fibs_lines.specs.Lines.{ReadLine}
 use Rattle.fibs_messages.specs.Line.{ReadingValue, numbered_line, board_line, text_line, malformed_line}
 use Rattle.fibs_json.specs.Boards.{board_members}
 use Rattle.fibs_json.specs.Columns.{message_members}
-use Rattle.fibs_json.specs.Json.{Member, character, digit, in_string, inside, is_escaped, more_member, more_members}
-use Rattle.fibs_json.specs.Json.{quoted}
-use Rattle.fibs_json.specs.Lines.{ObjectAs, ObjectsTellLines, OpeningsTell, ReadObject, line_object}
-use Rattle.fibs_json.specs.Lines.{HeardAs, HeardObject, object_with}
+use Rattle.fibs_json.specs.Json.{Member, character, digit, in_string, inside, is_escaped, more_member, more_members, quoted}
+use Rattle.fibs_json.specs.Lines.{ObjectAs, ObjectsTellLines, OpeningsTell, ReadObject, line_object, HeardAs, HeardObject, object_with, malformed_members}
 use Rattle.fibs_json.specs.Plays.{PlaysObject, PlaysTellLines}
 use Rattle.fibs_json.proofs.ObjectLemmas.{closed}
-use Rattle.fibs_json.specs.Lines.{malformed_members}
 
 -- a hexadecimal digit tells its value
 digit_tells : (d e : ℕ) → digit d ≡ digit e → d ≡ e

@@ -1,6 +1,5 @@
 -- An object goes in again: the line is found in it, and no other.
-use Rattle.std.proofs.Common.{◌≡◌, ◌≢◌, ◌⊎◌, ℕ, true, false, not, eqb, List, [], ◌∷◌, ◌++◌, codes, Option, Some, None}
-use Rattle.std.proofs.Common.{refl, sym, ap, subst, ◌∙◌, append_assoc, arith, inl, inr, MatchOption}
+use Rattle.std.proofs.Common.{◌≡◌, ◌≢◌, ◌⊎◌, ℕ, true, false, not, eqb, List, [], ◌∷◌, ◌++◌, codes, Option, Some, None, refl, sym, ap, subst, ◌∙◌, append_assoc, arith, inl, inr, MatchOption}
 use Rattle.std.specs.Borrow.{Bor}
 use Rattle.std.proofs.lemmas.Bool.{or_parts}
 use Rattle.std.proofs.lemmas.Bool.Decides.{nat_tests}
@@ -16,8 +15,7 @@ use Rattle.fibs_json.specs.Parts.{BeginsWith, front}
 use Rattle.fibs_json.specs.Json.{inside, is_escaped, more_member, more_members}
 use Rattle.fibs_json.specs.Lines.{ReadObject, object_with}
 use Rattle.fibs_json.specs.Plays.{PlaysOf}
-use Rattle.fibs_json.specs.Told.{BoardsGoInAgain, IsNoObject, IsObjectOf, OtherWordsAreLines, StandsAsItIs}
-use Rattle.fibs_json.specs.Told.{WordsSayOneLine, begins_object}
+use Rattle.fibs_json.specs.Told.{BoardsGoInAgain, IsNoObject, IsObjectOf, OtherWordsAreLines, StandsAsItIs, WordsSayOneLine, begins_object}
 use Rattle.fibs_json.proofs.ObjectLemmas.{closed}
 use Rattle.fibs_json.proofs.TellingLemmas.{openings_tell}
 

@@ -1,6 +1,5 @@
 -- A board as members of an object (FIBS board style 3; docs/FORMATS.md).
-use Rattle.std.specs.Prelude.{◌≡◌, ◌==◌, ◌&&◌, ◌⊎◌, ◌*◌, ◌-◌, ℕ, ℤ, pos, List, [], ◌∷◌, ◌++◌, map, sum, codes}
-use Rattle.std.specs.Prelude.{slice_index, if◌then◌else◌}
+use Rattle.std.specs.Prelude.{◌≡◌, ◌==◌, ◌&&◌, ◌⊎◌, ◌*◌, ◌-◌, ℕ, ℤ, pos, List, [], ◌∷◌, ◌++◌, map, sum, codes, slice_index, if◌then◌else◌}
 use Rattle.std.specs.List.{range_with_len}
 use Rattle.std.specs.Ordering.{int_eq}
 use Rattle.fibs_fields.specs.FieldReading.{natural}

@@ -1,6 +1,5 @@
 -- JSON texts (RFC 8259) of the values that a line has, and how bytes stand in a string.
-use Rattle.std.specs.Prelude.{◌+◌, ◌||◌, ◌/◌, ◌%◌, ◌==◌, ℕ, ℤ, Bool, true, false, nat_lt, List, [], ◌∷◌, ◌++◌, codes}
-use Rattle.std.specs.Prelude.{if◌then◌else◌}
+use Rattle.std.specs.Prelude.{◌+◌, ◌||◌, ◌/◌, ◌%◌, ◌==◌, ℕ, ℤ, Bool, true, false, nat_lt, List, [], ◌∷◌, ◌++◌, codes, if◌then◌else◌}
 use Rattle.std.specs.Fmt.{decimal, signed_decimal}
 use Rattle.std.specs.List.{flat_map}
 use Rattle.fibs_fields.specs.Rating.{printed_rating}

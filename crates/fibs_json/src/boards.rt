@@ -6,10 +6,7 @@ ghost use Rattle.fibs_position.specs.Names.{phase_name};
 ghost use Rattle.fibs_position.specs.OwnView.{turn, colour};
 ghost use Rattle.fibs_position.specs.Phases.{InPhase};
 ghost use Rattle.fibs_position.specs.PositionValue.{position_value};
-ghost use Rattle.fibs_json.specs.Boards.{board_members, checkers_of, colour_json, count_members, cube_members};
-ghost use Rattle.fibs_json.specs.Boards.{dice_json, dice_of, fault_members, match_members, number_field, off_members};
-ghost use Rattle.fibs_json.specs.Boards.{own_numbered, pips_of, position_members, PositionMembers, turn_json};
-ghost use Rattle.fibs_json.specs.Boards.{turn_members, yes_field};
+ghost use Rattle.fibs_json.specs.Boards.{board_members, checkers_of, colour_json, count_members, cube_members, dice_json, dice_of, fault_members, match_members, number_field, off_members, own_numbered, pips_of, position_members, PositionMembers, turn_json, turn_members, yes_field};
 ghost use Rattle.fibs_json.specs.Json.{Member, member, more_member, more_members, string, whole, wholes};
 
 use crate::members::{

@@ -4,8 +4,7 @@ ghost use Rattle.std.specs.List.{flat_map};
 ghost use Rattle.fibs_messages.specs.FieldOf.{value_of};
 ghost use Rattle.fibs_messages.specs.Message.{message_of};
 ghost use Rattle.fibs_json.specs.Json.{member, more_member, more_members, string, whole};
-ghost use Rattle.fibs_json.specs.Columns.{field_json, field_of_column, fields_of_columns, message_members, row_of};
-ghost use Rattle.fibs_json.specs.Columns.{some_bytes};
+ghost use Rattle.fibs_json.specs.Columns.{field_json, field_of_column, fields_of_columns, message_members, row_of, some_bytes};
 ghost use Rattle.fibs_json.specs.Parts.{field_text};
 
 use crate::columns::{Column, columns_of, word_of};

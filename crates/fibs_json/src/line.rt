@@ -6,8 +6,7 @@ ghost use Rattle.fibs_messages.specs.Line.{IsReading, ReadingValue, board_line, 
 ghost use Rattle.fibs_messages.specs.Message.{message_of};
 ghost use Rattle.fibs_json.specs.Columns.{message_members};
 ghost use Rattle.fibs_json.specs.Json.{more_members};
-ghost use Rattle.fibs_json.specs.Lines.{HeardObject, LineObject, ReadObject, line_object, malformed_members};
-ghost use Rattle.fibs_json.specs.Lines.{opening};
+ghost use Rattle.fibs_json.specs.Lines.{HeardObject, LineObject, ReadObject, line_object, malformed_members, opening};
 
 use crate::boards::append_board;
 use crate::fields::append_message;

@@ -1,8 +1,7 @@
 //! Members of an object, each after a comma.
 ghost use Rattle.std.specs.Prelude.{◌≡◌, ◌++◌, ◌∷◌, OnOk};
-ghost use Rattle.fibs_json.specs.Json.{array_text, hundredths, key, member, more_member, null, signed, string, truth};
+ghost use Rattle.fibs_json.specs.Json.{array_text, hundredths, key, member, more_member, null, signed, string, truth, more_number, whole, wholes};
 ghost use Rattle.std.specs.List.{flat_map};
-ghost use Rattle.fibs_json.specs.Json.{more_number, whole, wholes};
 
 use crate::strings::append_quoted;
 use fibs_fields::decimal::append_number;

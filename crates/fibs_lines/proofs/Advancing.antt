@@ -1,7 +1,5 @@
 -- What is kept, while a stream goes on.
-use Rattle.std.proofs.Common.{◌≡◌, ◌≢◌, ℕ, zero, suc, ◌+◌, ◌-◌, ◌<◌, ◌≤◌, Bool, true, false, List, [], ◌∷◌, ◌++◌}
-use Rattle.std.proofs.Common.{take, drop, get_or, refl, sym, ap, subst, ◌∙◌, arith, length-append, append_assoc}
-use Rattle.std.proofs.Common.{length, zero-le}
+use Rattle.std.proofs.Common.{◌≡◌, ◌≢◌, ℕ, zero, suc, ◌+◌, ◌-◌, ◌<◌, ◌≤◌, Bool, true, false, List, [], ◌∷◌, ◌++◌, take, drop, get_or, refl, sym, ap, subst, ◌∙◌, arith, length-append, append_assoc, length, zero-le}
 use Rattle.std.specs.Prelude.{◌||◌, nat_lt}
 use Rattle.std.proofs.Math.Seq.{take-add}
 use Rattle.std.proofs.lemmas.List.{length-take, append-nil, take_all, take_more, take_rest}
@@ -10,8 +8,7 @@ use Rattle.fibs_lines.specs.Progress.{IsRun, Kept, KeptAfter, Advances, data_of,
 use Rattle.fibs_lines.proofs.Parts.{has_end}
 use Rattle.fibs_lines.specs.declared.telnet.Telnet.{Telnet}
 use Rattle.fibs_lines.specs.declared.telnet.Telnet.TheVariants.{Data, Command, Negotiation}
-use Rattle.fibs_lines.proofs.Streams.{data_along, telnet_along, plain-append, telnet_of-append}
-use Rattle.fibs_lines.proofs.Streams.{lines_of_more, rest_of_more}
+use Rattle.fibs_lines.proofs.Streams.{data_along, telnet_along, plain-append, telnet_of-append, lines_of_more, rest_of_more}
 use Rattle.fibs_lines.proofs.RunLemmas.{has_end_run, data_along_run, telnet_along_run}
 
 -- the front of a list that grows

@@ -1,7 +1,5 @@
 -- What `feed` answers, from what is kept.
-use Rattle.std.proofs.Common.{◌≡◌, ℕ, zero, suc, ◌+◌, min, Bool, true, false}
-use Rattle.std.proofs.Common.{List, [], ◌∷◌, ◌++◌, length, take, None, Some}
-use Rattle.std.proofs.Common.{true≢false, refl, sym, ap, subst, ◌∙◌, arith, append_assoc}
+use Rattle.std.proofs.Common.{◌≡◌, ℕ, zero, suc, ◌+◌, min, Bool, true, false, List, [], ◌∷◌, ◌++◌, length, take, None, Some, true≢false, refl, sym, ap, subst, ◌∙◌, arith, append_assoc}
 use Rattle.std.specs.Prelude.{nat_lt}
 use Rattle.std.proofs.lemmas.List.{take_more, take_all, append-nil, length-take}
 use Rattle.fibs_lines.specs.Lines.{plain, lines_of, rest_of, line_of, kept_limit, value_of}
@@ -12,8 +10,7 @@ use Rattle.fibs_lines.specs.declared.unfinished.Unfinished.{Unfinished}
 use Rattle.fibs_lines.specs.Feeding.{Feeds}
 use Rattle.fibs_lines.specs.declared.line.Line.{Line}
 use Rattle.fibs_lines.specs.declared.telnet.Telnet.TheVariants.{Data}
-use Rattle.fibs_lines.proofs.Streams.{data_along, telnet_along, plain-append, telnet_of-append, lines_of_end}
-use Rattle.fibs_lines.proofs.Streams.{rest_of_end, lines_of_before}
+use Rattle.fibs_lines.proofs.Streams.{data_along, telnet_along, plain-append, telnet_of-append, lines_of_end, rest_of_end, lines_of_before}
 use Rattle.fibs_lines.proofs.ReturnLemmas.{kept_line_is}
 
 -- the value of a `Lines`, but for the line

@@ -6,8 +6,7 @@ use Rattle.fibs_lines.specs.StreamLaws.{with_line_end, LineEndEndsALine}
 use Rattle.fibs_lines.specs.declared.telnet.Telnet.{Telnet}
 use Rattle.fibs_lines.specs.declared.telnet.Telnet.TheVariants.{Data, Command, Negotiation}
 use Rattle.fibs_lines.proofs.Parts.{has_end}
-use Rattle.fibs_lines.proofs.Streams.{data_along, telnet_along, plain-append, telnet_of-append, lines_of_more}
-use Rattle.fibs_lines.proofs.Streams.{lines_of_end}
+use Rattle.fibs_lines.proofs.Streams.{data_along, telnet_along, plain-append, telnet_of-append, lines_of_more, lines_of_end}
 
 -- what the text's CR and LF give, if the text leaves this much of a command open
 given : (t : List ℕ) (k : Telnet) → telnet_of t ≡ k → plain (with_line_end t) ≡ plain t ++ data_along k (13 ∷ 10 ∷ [])

@@ -1,6 +1,5 @@
 -- The parts of a list between its line ends, one byte after the other. The definitions say the same of whole parts.
-use Rattle.std.proofs.Common.{◌≡◌, ℕ, ◌+◌, ◌-◌, ◌<◌, Bool, true, false, cond, eqb, not, List, [], ◌∷◌, ◌++◌, length}
-use Rattle.std.proofs.Common.{take, drop, reverse, map, refl, sym, ap, ◌∙◌, arith, length-append}
+use Rattle.std.proofs.Common.{◌≡◌, ℕ, ◌+◌, ◌-◌, ◌<◌, Bool, true, false, cond, eqb, not, List, [], ◌∷◌, ◌++◌, length, take, drop, reverse, map, refl, sym, ap, ◌∙◌, arith, length-append}
 use Rattle.std.specs.List.{slice_split, after_last, count_by, prefix_len, suffix_len}
 use Rattle.std.proofs.lemmas.List.{take_at, drop_at, length-reverse, reverse-append}
 use Rattle.std.proofs.lemmas.List.Splits.{length-slice_split}

@@ -1,6 +1,5 @@
 -- Data that nothing interrupts.
-use Rattle.std.proofs.Common.{◌≡◌, ℕ, zero, suc, ◌<◌, Bool, true, false, ◌+◌, List, [], ◌∷◌, ◌++◌, ◌-◌, ◌≤◌, length}
-use Rattle.std.proofs.Common.{take, drop, get_or, refl, sym, ap, ◌∙◌, subst, arith, true≢false}
+use Rattle.std.proofs.Common.{◌≡◌, ℕ, zero, suc, ◌<◌, Bool, true, false, ◌+◌, List, [], ◌∷◌, ◌++◌, ◌-◌, ◌≤◌, length, take, drop, get_or, refl, sym, ap, ◌∙◌, subst, arith, true≢false}
 use Rattle.std.proofs.lemmas.List.{length-take, take-take, take_rest, get_or-take, get_or-drop}
 use Rattle.std.proofs.Math.Seq.{take-add}
 use Rattle.fibs_lines.specs.Progress.{IsRun, ends_run}

@@ -1,8 +1,6 @@
 -- The laws of `specs/StreamLaws.antt`. The last lemmas have the names of the functions in `laws`, whose contracts they
 -- prove.
-use Rattle.std.proofs.Common.{◌≡◌, ℕ, ◌≤◌, Bool, true, false, cond, eqb, zero, suc, List, [], ◌∷◌, ◌++◌, length, take}
-use Rattle.std.proofs.Common.{drop, map, refl, sym, ap, ◌∙◌, arith, append_assoc, get_or, ◌+◌, length-drop, ne_eqb, ◌≢◌}
-use Rattle.std.proofs.Common.{inl, inr}
+use Rattle.std.proofs.Common.{◌≡◌, ℕ, ◌≤◌, Bool, true, false, cond, eqb, zero, suc, List, [], ◌∷◌, ◌++◌, length, take, drop, map, refl, sym, ap, ◌∙◌, arith, append_assoc, get_or, ◌+◌, length-drop, ne_eqb, ◌≢◌, inl, inr}
 use Rattle.std.specs.Prelude.{◌⊎◌, nat_lt, nat_eq, All}
 use Rattle.std.specs.List.{starts_with, concat}
 use Rattle.std.proofs.lemmas.List.{take_all, map-append, length-append, length-take}
@@ -10,21 +8,15 @@ use Rattle.std.proofs.lemmas.List.Elements.{All-nil, All-cons, All-head, All-tai
 use Rattle.std.proofs.lemmas.Slice.Eq.{starts_is}
 use Rattle.std.proofs.lemmas.Bool.Decides.{Decides-eqb}
 use Rattle.std.specs.Str.Lines.{strip_carriage_return}
-use Rattle.fibs_lines.specs.Lines.{kept_limit, ReadLine, plain, finished_parts, login_prompt, command_prompt}
-use Rattle.fibs_lines.specs.Lines.{without_some_prompts, without_prompts, line_of, lines_of, rest_of}
+use Rattle.fibs_lines.specs.Lines.{kept_limit, ReadLine, plain, finished_parts, login_prompt, command_prompt, without_some_prompts, without_prompts, line_of, lines_of, rest_of}
 use Rattle.fibs_lines.specs.Standing.{telnet_of, AtLineStart}
 use Rattle.fibs_lines.specs.LinesValue.{limited}
-use Rattle.fibs_lines.specs.StreamLaws.{PartsAreLinesAndRest, EmptyStreamHasNoLine, LinesOnlyGrow, with_line_end}
-use Rattle.fibs_lines.specs.StreamLaws.{LineEndIsALineStart, LineStartReadsAlone, WhatFollowsALineEndReadsAlone}
-use Rattle.fibs_lines.specs.StreamLaws.{LinesFit, IsSendable, SendableTextIsItsLine, PromptsThen, PromptsAreRemoved}
+use Rattle.fibs_lines.specs.StreamLaws.{PartsAreLinesAndRest, EmptyStreamHasNoLine, LinesOnlyGrow, with_line_end, LineEndIsALineStart, LineStartReadsAlone, WhatFollowsALineEndReadsAlone, LinesFit, IsSendable, SendableTextIsItsLine, PromptsThen, PromptsAreRemoved}
 use Rattle.fibs_lines.specs.Progress.{IsRun, ends_run}
 use Rattle.fibs_lines.specs.declared.telnet.Telnet.{Telnet}
 use Rattle.fibs_lines.specs.declared.telnet.Telnet.TheVariants.{Data, Command, Negotiation}
-use Rattle.fibs_lines.proofs.Parts.{finished, has_end, after_end, after_end_none, finished_some, finished_none}
-use Rattle.fibs_lines.proofs.Parts.{slice_split-is, finished_parts-is, lines_of-is, rest_of-is}
-use Rattle.fibs_lines.proofs.Streams.{data_along, telnet_along, plain-along, plain-append, telnet_of-along}
-use Rattle.fibs_lines.proofs.Streams.{telnet_of-append, after_end-append_none, after_end-append_end, has_end-append}
-use Rattle.fibs_lines.proofs.Streams.{lines_of_end, lines_of_grow, lines_of-nil}
+use Rattle.fibs_lines.proofs.Parts.{finished, has_end, after_end, after_end_none, finished_some, finished_none, slice_split-is, finished_parts-is, lines_of-is, rest_of-is}
+use Rattle.fibs_lines.proofs.Streams.{data_along, telnet_along, plain-along, plain-append, telnet_of-along, telnet_of-append, after_end-append_none, after_end-append_end, has_end-append, lines_of_end, lines_of_grow, lines_of-nil}
 use Rattle.fibs_lines.proofs.RunLemmas.{IsRun-append, has_end_run, data_along_run, telnet_along_run}
 use Rattle.fibs_lines.proofs.ReturnLemmas.{same_read_line, strip-is, without_return_yes}
 use Rattle.fibs_lines.proofs.PromptLemmas.{without_prompts_login, without_prompts_command, without_prompts_none}

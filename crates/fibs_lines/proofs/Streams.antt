@@ -1,13 +1,11 @@
 -- A stream that goes on: what each further byte gives.
-use Rattle.std.proofs.Common.{◌≡◌, ℕ, ◌+◌, ◌-◌, ◌≤◌, Bool, true, false, cond, eqb, List, [], ◌∷◌, ◌++◌, length, take}
-use Rattle.std.proofs.Common.{drop, map, refl, sym, ap, ◌∙◌, arith, append_assoc}
+use Rattle.std.proofs.Common.{◌≡◌, ℕ, ◌+◌, ◌-◌, ◌≤◌, Bool, true, false, cond, eqb, List, [], ◌∷◌, ◌++◌, length, take, drop, map, refl, sym, ap, ◌∙◌, arith, append_assoc}
 use Rattle.std.proofs.Math.Seq.{take-add}
 use Rattle.std.proofs.lemmas.List.{append-nil, nil_from_length, length-append, map-append}
 use Rattle.fibs_lines.specs.Lines.{ReadLine, takes_option, plain, line_of, lines_of, rest_of}
 use Rattle.fibs_lines.specs.Progress.{data_of, telnet_after}
 use Rattle.fibs_lines.specs.Standing.{telnet_of}
-use Rattle.fibs_lines.proofs.Parts.{onto_each_first, finished, has_end, after_end, after_end_none, finished_none}
-use Rattle.fibs_lines.proofs.Parts.{finished_some, lines_of-is, rest_of-is}
+use Rattle.fibs_lines.proofs.Parts.{onto_each_first, finished, has_end, after_end, after_end_none, finished_none, finished_some, lines_of-is, rest_of-is}
 use Rattle.fibs_lines.specs.declared.telnet.Telnet.{Telnet}
 use Rattle.fibs_lines.specs.declared.telnet.Telnet.TheVariants.{Data, Command, Negotiation}
 

@@ -1,7 +1,5 @@
 -- A line that is whole in a piece, of literal bytes.
-use Rattle.std.proofs.Common.{◌≡◌, ℕ, zero, suc, ◌+◌, ◌-◌, ◌<◌, Bool, true, false, ◌&&◌, List, [], ◌∷◌, ◌++◌, length}
-use Rattle.std.proofs.Common.{get_or, take, drop, Some, refl, sym, ap, subst, ◌∙◌, arith, inl, inr, true≢false}
-use Rattle.std.proofs.Common.{take-append-drop}
+use Rattle.std.proofs.Common.{◌≡◌, ℕ, zero, suc, ◌+◌, ◌-◌, ◌<◌, Bool, true, false, ◌&&◌, List, [], ◌∷◌, ◌++◌, length, get_or, take, drop, Some, refl, sym, ap, subst, ◌∙◌, arith, inl, inr, true≢false, take-append-drop}
 use Rattle.std.specs.Prelude.{nat_lt}
 use Rattle.std.specs.List.{list_all, concat}
 use Rattle.std.specs.Str.Lines.{strip_carriage_return}
@@ -19,8 +17,7 @@ use Rattle.fibs_lines.specs.declared.telnet.Telnet.TheVariants.{Data}
 use Rattle.fibs_lines.proofs.RunLemmas.{IsRun_take, IsRun-next}
 use Rattle.fibs_lines.proofs.Advancing.{Advances-run}
 use Rattle.fibs_lines.proofs.ReturnLemmas.{strip-is, without_return_none, without_return_yes, kept_line_is}
-use Rattle.fibs_lines.proofs.FeedLemmas.{kept_of, StandsAfter-from_kept, KeptAfter-from_stands, Feeds_line}
-use Rattle.fibs_lines.proofs.FeedLemmas.{KeptAfter_line}
+use Rattle.fibs_lines.proofs.FeedLemmas.{kept_of, StandsAfter-from_kept, KeptAfter-from_stands, Feeds_line, KeptAfter_line}
 use Rattle.fibs_lines.proofs.StreamLawProofs.{prompts_are_removed}
 
 -- a literal byte ends no run

@@ -1,7 +1,6 @@
 -- The lines of a byte stream: telnet commands (RFC 854), line ends, the limit and the prompts. Each definition cuts a
 -- whole list.
-use Rattle.std.specs.Prelude.{ℕ, zero, suc, Bool, ◌&&◌, ◌==◌, nat_le, nat_lt, nat_eq, List, [], ◌∷◌, length, take, drop}
-use Rattle.std.specs.Prelude.{map, codes, count_by, if◌then◌else◌, Option, None, Some}
+use Rattle.std.specs.Prelude.{ℕ, zero, suc, Bool, ◌&&◌, ◌==◌, nat_le, nat_lt, nat_eq, List, [], ◌∷◌, length, take, drop, map, codes, count_by, if◌then◌else◌, Option, None, Some}
 use Rattle.std.specs.List.{starts_with, slice_split, after_last}
 use Rattle.std.specs.Str.Lines.{strip_carriage_return}
 use Rattle.fibs_lines.specs.declared.line.Line.{Line}

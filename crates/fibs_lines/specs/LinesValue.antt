@@ -1,6 +1,5 @@
 -- What a `Lines` is seen as.
-use Rattle.std.specs.Prelude.{◌≡◌, ℕ, ◌+◌, Bool, nat_lt, List, length, take, Option, false, ◌||◌, [], None, Some}
-use Rattle.std.specs.Prelude.{if◌then◌else◌}
+use Rattle.std.specs.Prelude.{◌≡◌, ℕ, ◌+◌, Bool, nat_lt, List, length, take, Option, false, ◌||◌, [], None, Some, if◌then◌else◌}
 use Rattle.fibs_lines.specs.Lines.{kept_limit, rest_of, ReadLine, without_prompts}
 use Rattle.fibs_lines.specs.Standing.{telnet_of}
 use Rattle.fibs_lines.specs.declared.telnet.Telnet.{Telnet}

@@ -1,6 +1,5 @@
 -- How the reading loop goes on. No public contract rests on this file.
-use Rattle.std.specs.Prelude.{◌≡◌, ℕ, ◌+◌, ◌<◌, ◌≤◌, Bool, true, false, ◌||◌, ◌==◌, nat_lt, List, [], ◌∷◌, ◌++◌, length}
-use Rattle.std.specs.Prelude.{take, slice_index, ◌⊎◌, if◌then◌else◌}
+use Rattle.std.specs.Prelude.{◌≡◌, ℕ, ◌+◌, ◌<◌, ◌≤◌, Bool, true, false, ◌||◌, ◌==◌, nat_lt, List, [], ◌∷◌, ◌++◌, length, take, slice_index, ◌⊎◌, if◌then◌else◌}
 use Rattle.fibs_lines.specs.Lines.{kept_limit, rest_of, lines_of, takes_option}
 use Rattle.fibs_lines.specs.Literal.{is_literal}
 use Rattle.fibs_lines.specs.Standing.{telnet_of}

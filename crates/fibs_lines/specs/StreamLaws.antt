@@ -1,8 +1,7 @@
 -- Laws of the definitions: the contracts of the functions in `laws`.
 use Rattle.std.specs.Prelude.{◌≡◌, ℕ, ◌+◌, ◌≤◌, ◌⊎◌, ◌≢◌, false, nat_eq, List, [], ◌∷◌, ◌++◌, length, count_by, All}
 use Rattle.std.specs.List.{starts_with, slice_split, concat}
-use Rattle.fibs_lines.specs.Lines.{kept_limit, plain, is_line_end, finished_parts, login_prompt, command_prompt}
-use Rattle.fibs_lines.specs.Lines.{without_prompts, ReadLine, lines_of, rest_of}
+use Rattle.fibs_lines.specs.Lines.{kept_limit, plain, is_line_end, finished_parts, login_prompt, command_prompt, without_prompts, ReadLine, lines_of, rest_of}
 use Rattle.fibs_lines.specs.Standing.{AtLineStart}
 
 -- the parts between the line ends are the finished ones, and then the rest

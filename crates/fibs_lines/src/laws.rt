@@ -4,10 +4,7 @@
 
 ghost use Rattle.std.specs.Prelude.{◌≡◌, ◌↔◌, IsTrue};
 ghost use Rattle.fibs_lines.specs.Lines.{value_of, line_value, kept_limit};
-ghost use Rattle.fibs_lines.specs.StreamLaws.{PartsAreLinesAndRest, EmptyStreamHasNoLine, LinesOnlyGrow};
-ghost use Rattle.fibs_lines.specs.StreamLaws.{LinesAreAtMostTheLineEnds, LineEndIsALineStart, LineEndEndsALine};
-ghost use Rattle.fibs_lines.specs.StreamLaws.{LineStartReadsAlone, WhatFollowsALineEndReadsAlone, LinesFit};
-ghost use Rattle.fibs_lines.specs.StreamLaws.{SendableTextIsItsLine, PromptsAreRemoved};
+ghost use Rattle.fibs_lines.specs.StreamLaws.{PartsAreLinesAndRest, EmptyStreamHasNoLine, LinesOnlyGrow, LinesAreAtMostTheLineEnds, LineEndIsALineStart, LineEndEndsALine, LineStartReadsAlone, WhatFollowsALineEndReadsAlone, LinesFit, SendableTextIsItsLine, PromptsAreRemoved};
 
 use crate::{Fed, LIMIT, Line};
 

@@ -1,7 +1,6 @@
 //! What is kept of a stream between two pieces: the line that is not finished.
 
-ghost use Rattle.std.specs.Prelude.{true, false, IfNone, IfSome, ◌≡◌, ◌+◌, ◌-◌, ◌<◌, ◌≤◌, ◌||◌, nat_lt, length, take};
-ghost use Rattle.std.specs.Prelude.{◌++◌, ◌∷◌, [], slice_index, ◌≢◌, map};
+ghost use Rattle.std.specs.Prelude.{true, false, IfNone, IfSome, ◌≡◌, ◌+◌, ◌-◌, ◌<◌, ◌≤◌, ◌||◌, nat_lt, length, take, ◌++◌, ◌∷◌, [], slice_index, ◌≢◌, map};
 ghost use Rattle.std.specs.Simd.Lanes.{mask_l};
 ghost use Rattle.fibs_lines.specs.Progress.{IsRun, ends_run};
 

@@ -2,8 +2,7 @@
 use Rattle.std.specs.Prelude.{◌<◌}
 use Rattle.fibs_fields.specs.Decimal.{numbers_of_32_bits, numbers_of_64_bits}
 use Rattle.fibs_messages.specs.declared.message.Message.{Message}
-use Rattle.fibs_messages.specs.declared.message.Message.TheVariants.{Welcome, OwnInfo, WhoInfo}
-use Rattle.fibs_messages.specs.declared.message.Message.TheVariants.{MessageReceived}
+use Rattle.fibs_messages.specs.declared.message.Message.TheVariants.{Welcome, OwnInfo, WhoInfo, MessageReceived}
 
 -- the numbers in a message have the bits of their types
 abbrev pub HasBits : Message → Type 0

@@ -5,8 +5,7 @@ use Rattle.fibs_messages.specs.declared.field.Field.TheVariants.{Name, Word, Tai
 use Rattle.fibs_messages.specs.declared.field.FieldList.{FieldList}
 use Rattle.fibs_messages.specs.declared.field.FieldList.TheVariants as L
 use Rattle.fibs_messages.specs.Message.{own_info_fields, who_info_fields}
-use Rattle.fibs_fields.specs.Field.{FieldValue, NameField, WordField, TailField, FlagField, NumberField, RatingField}
-use Rattle.fibs_fields.specs.Field.{TextField}
+use Rattle.fibs_fields.specs.Field.{FieldValue, NameField, WordField, TailField, FlagField, NumberField, RatingField, TextField}
 use Rattle.fibs_fields.specs.Bytes.{name_bytes, word_bytes, tail_bytes}
 
 -- a field

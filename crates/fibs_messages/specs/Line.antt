@@ -1,6 +1,5 @@
 -- What a line of the server is, and what a reading says of it (FIBS CLIP specification 1008; FIBS board style 3).
-use Rattle.std.specs.Prelude.{◌≡◌, ◌==◌, ◌⊎◌, List, [], ◌∷◌, ℕ, ℤ, pos, Option, Some, None, Result, Ok, Err, codes}
-use Rattle.std.specs.Prelude.{Bool, true, if◌then◌else◌}
+use Rattle.std.specs.Prelude.{◌≡◌, ◌==◌, ◌⊎◌, List, [], ◌∷◌, ℕ, ℤ, pos, Option, Some, None, Result, Ok, Err, codes, Bool, true, if◌then◌else◌}
 use Rattle.std.specs.List.{starts_with}
 use Rattle.fibs_fields.specs.Board.{BoardFields, BoardText, Wrong, field_values, kinds, pieces}
 use Rattle.fibs_fields.specs.Spaces.{without_spaces}
@@ -8,8 +7,7 @@ use Rattle.fibs_fields.specs.BoardReading.{first_fault}
 use Rattle.fibs_fields.specs.Decimal.{number_in}
 use Rattle.fibs_fields.specs.Field.{FieldValue}
 use Rattle.fibs_fields.specs.FieldReading.{fields_at, left}
-use Rattle.fibs_messages.specs.Message.{MessageValue, MessageText, IsNumbered, WrongMessage, kinds_of, kept}
-use Rattle.fibs_messages.specs.Message.{number_word, message_of}
+use Rattle.fibs_messages.specs.Message.{MessageValue, MessageText, IsNumbered, WrongMessage, kinds_of, kept, number_word, message_of}
 use Rattle.fibs_fields.specs.Split.{before, after}
 use Rattle.fibs_fields.specs.declared.fault.FieldFault.{FieldFault}
 use Rattle.fibs_fields.specs.declared.fault.Fault.{Fault}

@@ -1,22 +1,13 @@
 -- Messages 1 to 19 (FIBS CLIP specification 1008) and their lines.
-use Rattle.std.specs.Prelude.{◌≡◌, ℕ, ◌≤◌, ◌+◌, ◌-◌, Bool, false, nat_le, ◌&&◌, ◌||◌, ◌==◌, List, [], ◌∷◌, ◌++◌, Option}
-use Rattle.std.specs.Prelude.{Some, None, decimal, map, replicate, if◌then◌else◌}
+use Rattle.std.specs.Prelude.{◌≡◌, ℕ, ◌≤◌, ◌+◌, ◌-◌, Bool, false, nat_le, ◌&&◌, ◌||◌, ◌==◌, List, [], ◌∷◌, ◌++◌, Option, Some, None, decimal, map, replicate, if◌then◌else◌}
 use Rattle.std.specs.Int.{is_in_range}
 use Rattle.std.specs.List.{flat_map, AllByRecursion}
 use Rattle.fibs_fields.specs.declared.fault.Fault.{Fault}
 use Rattle.fibs_fields.specs.Spaces.{without_spaces}
-use Rattle.fibs_fields.specs.Field.{Kind, a_name, a_word, a_tail, a_flag, a_number, a_rating, a_text, FieldValue}
-use Rattle.fibs_fields.specs.Field.{NameField, WordField, TailField, FlagField, NumberField, RatingField, TextField}
-use Rattle.fibs_fields.specs.Field.{kind_of, IsValue, Spells, canonical_text, texts_for, fault_at, IsFirstFault}
+use Rattle.fibs_fields.specs.Field.{Kind, a_name, a_word, a_tail, a_flag, a_number, a_rating, a_text, FieldValue, NameField, WordField, TailField, FlagField, NumberField, RatingField, TextField, kind_of, IsValue, Spells, canonical_text, texts_for, fault_at, IsFirstFault}
 use Rattle.fibs_fields.specs.Split.{before, after}
 use Rattle.fibs_messages.specs.declared.message.Message.{Message}
-use Rattle.fibs_messages.specs.declared.message.Message.TheVariants.{Welcome, OwnInfo as TheOwnInfo, MotdBegin}
-use Rattle.fibs_messages.specs.declared.message.Message.TheVariants.{MotdEnd, WhoInfo as TheWhoInfo}
-use Rattle.fibs_messages.specs.declared.message.Message.TheVariants.{WhoInfoEnd, Login, Logout}
-use Rattle.fibs_messages.specs.declared.message.Message.TheVariants.{MessageReceived, MessageDelivered}
-use Rattle.fibs_messages.specs.declared.message.Message.TheVariants.{MessageSaved, Says, Shouts, Whispers}
-use Rattle.fibs_messages.specs.declared.message.Message.TheVariants.{Kibitzes, YouSay, YouShout, YouWhisper}
-use Rattle.fibs_messages.specs.declared.message.Message.TheVariants.{YouKibitz}
+use Rattle.fibs_messages.specs.declared.message.Message.TheVariants.{Welcome, OwnInfo as TheOwnInfo, MotdBegin, MotdEnd, WhoInfo as TheWhoInfo, WhoInfoEnd, Login, Logout, MessageReceived, MessageDelivered, MessageSaved, Says, Shouts, Whispers, Kibitzes, YouSay, YouShout, YouWhisper, YouKibitz}
 use Rattle.fibs_messages.specs.declared.message.OwnInfo.{OwnInfo}
 use Rattle.fibs_messages.specs.declared.message.WhoInfo.{WhoInfo}
 use Rattle.fibs_fields.specs.Bytes.{name_bytes, word_bytes, tail_bytes}

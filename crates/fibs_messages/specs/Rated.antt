@@ -1,8 +1,7 @@
 -- The fields of message 5 in the parts in which they are read. No public contract rests on it.
 use Rattle.std.specs.Prelude.{List, [], ◌∷◌}
 use Rattle.fibs_fields.specs.Bytes.{word_bytes, tail_bytes}
-use Rattle.fibs_fields.specs.Field.{Kind, a_word, a_tail, a_number, a_rating}
-use Rattle.fibs_fields.specs.Field.{FieldValue, WordField, TailField, NumberField, RatingField}
+use Rattle.fibs_fields.specs.Field.{Kind, a_word, a_tail, a_number, a_rating, FieldValue, WordField, TailField, NumberField, RatingField}
 use Rattle.fibs_messages.specs.declared.reader.RatedInfo.{RatedInfo}
 
 -- the kinds of the fields from the rating on

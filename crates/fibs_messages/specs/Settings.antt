@@ -1,8 +1,7 @@
 -- The settings of message 2 in the parts in which they are read. No public contract rests on it.
 use Rattle.std.specs.Prelude.{List, [], ◌∷◌}
 use Rattle.fibs_fields.specs.Bytes.{word_bytes}
-use Rattle.fibs_fields.specs.Field.{Kind, a_word, a_flag, a_number, a_rating}
-use Rattle.fibs_fields.specs.Field.{FieldValue, WordField, FlagField, NumberField, RatingField}
+use Rattle.fibs_fields.specs.Field.{Kind, a_word, a_flag, a_number, a_rating, FieldValue, WordField, FlagField, NumberField, RatingField}
 use Rattle.fibs_messages.specs.declared.reader.LastSettings.{LastSettings}
 use Rattle.fibs_messages.specs.declared.reader.LaterSettings.{LaterSettings}
 

@@ -2,9 +2,7 @@
 
 ghost use Rattle.std.specs.Prelude.{◌≡◌, ◌↔◌, ℕ, List, Some, IfSome};
 ghost use Rattle.fibs_fields.specs.Board.{BoardFields, BoardText};
-ghost use Rattle.fibs_messages.specs.Line.{IsBoardLine, IsMalformed, IsText, ReadingValue, numbered_line, board_line};
-ghost use Rattle.fibs_messages.specs.Line.{text_line, malformed_line, IsOfNumber, IsReading, reading_value, reading_of};
-ghost use Rattle.fibs_messages.specs.Line.{begins_a_board};
+ghost use Rattle.fibs_messages.specs.Line.{IsBoardLine, IsMalformed, IsText, ReadingValue, numbered_line, board_line, text_line, malformed_line, IsOfNumber, IsReading, reading_value, reading_of, begins_a_board};
 ghost use Rattle.fibs_messages.specs.LineReading.{BeginsAs, IsAsRead};
 ghost use Rattle.fibs_messages.specs.Message.{number_word, HasNumber, IsNumber, MessageValue, MessageText};
 ghost use Rattle.fibs_fields.specs.Split.{before};

@@ -4,8 +4,7 @@ ghost use Rattle.std.specs.Prelude.{◌≡◌, ◌∷◌, ◌++◌, decimal, len
 ghost use Rattle.std.specs.List.{flat_map};
 ghost use Rattle.fibs_fields.specs.Field.{FlagField, NumberField, RatingField, TextField};
 ghost use Rattle.fibs_messages.specs.FieldOf.{listed, value_of, values_of};
-ghost use Rattle.fibs_messages.specs.Message.{MessageText, canonical, canonical_field, message_of};
-ghost use Rattle.fibs_messages.specs.Message.{own_info_fields, who_info_fields};
+ghost use Rattle.fibs_messages.specs.Message.{MessageText, canonical, canonical_field, message_of, own_info_fields, who_info_fields};
 
 use crate::field::{Field, FieldList, own_info_fields, who_info_fields};
 use crate::laws::messages_are_well_formed;

@@ -2,14 +2,12 @@
 #![tactic(auto, unfolding(crate::specs::Message::table))]
 
 ghost use Rattle.std.specs.Prelude.{◌≡◌, ◌≤◌, [], ◌∷◌, IfOk};
-ghost use Rattle.fibs_fields.specs.Field.{NameField, TailField, TextField, WordField};
-ghost use Rattle.fibs_fields.specs.Field.{a_name, a_tail, a_text, a_word};
+ghost use Rattle.fibs_fields.specs.Field.{NameField, TailField, TextField, WordField, a_name, a_tail, a_text, a_word};
 ghost use Rattle.fibs_fields.specs.FieldReading.{Gives, fields_at, left, left_of};
 ghost use Rattle.fibs_fields.specs.Split.{seen};
 ghost use Rattle.fibs_messages.specs.Message.{IsNumber, kinds_of, message_of};
 ghost use Rattle.fibs_messages.specs.Rated.{rated_info_fields, rated_info_kinds};
-ghost use Rattle.fibs_messages.specs.Settings.{last_settings_fields, last_settings_kinds};
-ghost use Rattle.fibs_messages.specs.Settings.{later_settings_fields, later_settings_kinds};
+ghost use Rattle.fibs_messages.specs.Settings.{last_settings_fields, last_settings_kinds, later_settings_fields, later_settings_kinds};
 ghost use Rattle.fibs_fields.specs.Bytes.{name_bytes, tail_bytes, word_bytes};
 
 use crate::message::{Message, OwnInfo, WhoInfo};

@@ -1,6 +1,5 @@
 -- What the client does at an event: it notes entries of the open connection, and hands out commands there.
-use Rattle.std.proofs.Common.{◌≡◌, ℕ, ◌≤◌, Bool, true, false, List, [], ◌∷◌, ◌++◌, Option, Some, None, nat_eq, take}
-use Rattle.std.proofs.Common.{refl, sym, ◌∙◌, ap, subst, inl, inr, append-nil, append_assoc, if◌then◌else◌}
+use Rattle.std.proofs.Common.{◌≡◌, ℕ, ◌≤◌, Bool, true, false, List, [], ◌∷◌, ◌++◌, Option, Some, None, nat_eq, take, refl, sym, ◌∙◌, ap, subst, inl, inr, append-nil, append_assoc, if◌then◌else◌}
 use Rattle.std.proofs.lemmas.Bool.Decides.{eqb_tells}
 use Rattle.std.proofs.lemmas.List.Concat.{flat_map-append}
 use Rattle.fibs_lines.specs.Lines.{ReadLine as Line}
@@ -13,20 +12,16 @@ use Rattle.fibs_position.specs.GoodBoard.{good as is_good}
 use Rattle.fibs_session.specs.declared.histories.refusal.Refusal.{Refusal}
 use Rattle.fibs_session.specs.declared.histories.refusal.PlainRefusal.{PlainRefusal}
 use Rattle.fibs_session.specs.History.Allows.{allows}
-use Rattle.fibs_session.specs.History.Hearing.{Heard, heard, nothing_heard, flags_of, line_reading, shown_entries}
-use Rattle.fibs_session.specs.History.Hearing.{shows_board}
-use Rattle.fibs_session.specs.History.Log.{Entry, Welcomed, Informed, Shown, Clicked, Sent, Took, Undone, Ordered}
-use Rattle.fibs_session.specs.History.Log.{Withdrawn}
+use Rattle.fibs_session.specs.History.Hearing.{Heard, heard, nothing_heard, flags_of, line_reading, shown_entries, shows_board}
+use Rattle.fibs_session.specs.History.Log.{Entry, Welcomed, Informed, Shown, Clicked, Sent, Took, Undone, Ordered, Withdrawn}
 use Rattle.fibs_session.specs.History.Machine.{gained, on_wire, wire_of, plain_refusal, order_refusal, withdraw_refusal}
 use Rattle.fibs_session.specs.History.Orders.{is_due}
 use Rattle.fibs_session.specs.History.Words.{one_if, last, open_from, open_now, shown, shown_by, answer}
-use Rattle.fibs_model.specs.Events.{Event, Open, Click, Plain, Deliver, Lose, Serve, Own, Repeat, Text, Order}
-use Rattle.fibs_model.specs.Events.{Withdraw}
+use Rattle.fibs_model.specs.Events.{Event, Open, Click, Plain, Deliver, Lose, Serve, Own, Repeat, Text, Order, Withdraw}
 use Rattle.fibs_model.specs.Headline.{AllAtMost}
 use Rattle.fibs_model.specs.Server.{command}
 use Rattle.fibs_model.specs.Wires.{Link, delivered, more_asked}
-use Rattle.fibs_model.specs.World.{World, after, noted, linked, asks, hears, hears_all, sends_out, clicks}
-use Rattle.fibs_model.specs.World.{sends_plain, notes_unless, talk_of}
+use Rattle.fibs_model.specs.World.{World, after, noted, linked, asks, hears, hears_all, sends_out, clicks, sends_plain, notes_unless, talk_of}
 use Rattle.fibs_session.proofs.History.Lists.{other_number}
 use Rattle.fibs_session.proofs.History.Past.{open_append}
 use Rattle.fibs_model.proofs.joint.Sending.{if_fact}

@@ -1,13 +1,10 @@
 -- The headline, after every list of events.
-use Rattle.std.proofs.Common.{◌≡◌, ℕ, ◌+◌, ◌<◌, ◌≤◌, Bool, true, false, List, [], ◌∷◌, ◌++◌, Option, Some, None, nat_eq}
-use Rattle.std.proofs.Common.{length, refl, sym, ◌∙◌, ap, subst, inl, inr, ◌⊎◌, true≢false, arith, length-append}
-use Rattle.std.proofs.Common.{append-nil}
+use Rattle.std.proofs.Common.{◌≡◌, ℕ, ◌+◌, ◌<◌, ◌≤◌, Bool, true, false, List, [], ◌∷◌, ◌++◌, Option, Some, None, nat_eq, length, refl, sym, ◌∙◌, ap, subst, inl, inr, ◌⊎◌, true≢false, arith, length-append, append-nil}
 use Rattle.std.proofs.lemmas.Bool.Decides.{eqb_tells, nat_tests}
 use Rattle.fibs_fields.specs.Board.{BoardFields as Board, spelling}
 use Rattle.fibs_position.specs.DecisionValue.{DecisionValue as Decision}
 use Rattle.fibs_session.specs.declared.histories.refusal.Refusal.{Refusal}
-use Rattle.fibs_session.specs.History.Log.{Entry, Opened, LoggedIn, Welcomed, Informed, Shown, Took, Lost, Ordered}
-use Rattle.fibs_session.specs.History.Log.{Withdrawn}
+use Rattle.fibs_session.specs.History.Log.{Entry, Opened, LoggedIn, Welcomed, Informed, Shown, Took, Lost, Ordered, Withdrawn}
 use Rattle.fibs_session.specs.History.Orders.{is_due}
 use Rattle.fibs_session.specs.History.Words.{Ask, is_empty, open_now, shown, sent, took, unconfirmed, answer}
 use Rattle.std.specs.Prelude.{nat_lt}
@@ -18,10 +15,8 @@ use Rattle.fibs_session.specs.History.Machine.{plain_refusal, order_refusal, wit
 use Rattle.fibs_model.specs.Wires.{taken, next_line}
 use Rattle.fibs_position.specs.BoardEffect.{is_die}
 use Rattle.fibs_model.specs.Server.{decision_in, command, effect, carried, obeyed, Stale, LoggedIn as LoggedInNow}
-use Rattle.fibs_model.specs.Events.{Event, Open, Click, Plain, Deliver, Lose, Serve}
-use Rattle.fibs_model.specs.Events.{Own, Repeat, Text, Order, Withdraw}
-use Rattle.fibs_model.specs.World.{does_heard, does_served, sends_plain, notes_unless, talk_of, World, noted, linked}
-use Rattle.fibs_model.specs.World.{sends, is_talking, sends_out, clicks, hears, hears_all, serves, after, start}
+use Rattle.fibs_model.specs.Events.{Event, Open, Click, Plain, Deliver, Lose, Serve, Own, Repeat, Text, Order, Withdraw}
+use Rattle.fibs_model.specs.World.{does_heard, does_served, sends_plain, notes_unless, talk_of, World, noted, linked, sends, is_talking, sends_out, clicks, hears, hears_all, serves, after, start}
 use Rattle.fibs_model.proofs.Answering.{answered_at as answered_now, takes_line, obeys, carries_out}
 use Rattle.fibs_model.specs.Refusals.{refusal}
 use Rattle.fibs_model.specs.Headline.{Headline, IsAtRest, AllLegal, AllGood, AllAtMost}
@@ -43,8 +38,7 @@ use Rattle.fibs_model.proofs.ClientActs.{does_hears, given, lines_at}
 use Rattle.fibs_model.proofs.log.Fitting.{answered, on_shown, shown_here}
 use Rattle.fibs_model.proofs.Numbered.{all_numbers}
 use Rattle.fibs_model.proofs.Projection.{talk_is_projected}
-use Rattle.fibs_model.proofs.log.Told.{Told, AllAllowed, AllPass, IsPlain, told_plain, told_shown, told_rolled}
-use Rattle.fibs_model.proofs.log.Told.{told_no, told_yes, told_took}
+use Rattle.fibs_model.proofs.log.Told.{Told, AllAllowed, AllPass, IsPlain, told_plain, told_shown, told_rolled, told_no, told_yes, told_took}
 use Rattle.fibs_commands.specs.PlainCommands.{PlainValue}
 use Rattle.fibs_session.specs.History.Allows.{allows}
 use Rattle.fibs_position.specs.GamePart.{same_game}

@@ -1,7 +1,5 @@
 -- The client's machine is a projection of the world's.
-use Rattle.std.proofs.Common.{◌≡◌, ℕ, ◌+◌, ◌<◌, Bool, true, false, not, List, [], ◌∷◌, ◌++◌, Option, Some, None, nat_eq}
-use Rattle.std.proofs.Common.{flat_map, take, length, refl, sym, ◌∙◌, suc, ap, subst, inl, inr, append-nil}
-use Rattle.std.proofs.Common.{append_assoc, length-append, arith, if◌then◌else◌}
+use Rattle.std.proofs.Common.{◌≡◌, ℕ, ◌+◌, ◌<◌, Bool, true, false, not, List, [], ◌∷◌, ◌++◌, Option, Some, None, nat_eq, flat_map, take, length, refl, sym, ◌∙◌, suc, ap, subst, inl, inr, append-nil, append_assoc, length-append, arith, if◌then◌else◌}
 use Rattle.std.proofs.lemmas.List.Concat.{flat_map-append}
 use Rattle.fibs_lines.specs.Lines.{ReadLine}
 use Rattle.fibs_fields.specs.Board.{BoardFields as Board, spelling}
@@ -14,18 +12,13 @@ use Rattle.fibs_session.specs.History.Log.{Entry}
 use Rattle.fibs_session.specs.History.Log as L
 use Rattle.fibs_session.specs.History.Words.{is_empty, open_from, open_now, opened_by, connections, unconfirmed, answer}
 use Rattle.fibs_session.specs.History.Hearing.{Heard, heard, line_reading}
-use Rattle.fibs_session.specs.History.Machine.{Talk, Outcome, step, noted as talk_noted, does, stays, opened, loses, reads}
-use Rattle.fibs_session.specs.History.Machine.{with_bytes, hears_all as talk_hears_all, clicks_by, decides_on}
-use Rattle.fibs_session.specs.History.Machine.{sends_plain as talk_sends_plain, plain_refusal, gained, on_wire, wire_of}
-use Rattle.fibs_session.specs.History.Machine.{notes_if, order_refusal, withdraw_refusal}
+use Rattle.fibs_session.specs.History.Machine.{Talk, Outcome, step, noted as talk_noted, does, stays, opened, loses, reads, with_bytes, hears_all as talk_hears_all, clicks_by, decides_on, sends_plain as talk_sends_plain, plain_refusal, gained, on_wire, wire_of, notes_if, order_refusal, withdraw_refusal}
 use Rattle.fibs_session.specs.History.Allows.{allows}
 use Rattle.fibs_session.specs.History.Machine as M
 use Rattle.fibs_model.specs.Wires.{Link, delivered, more_asked, taken, cut_off, next_line}
 use Rattle.fibs_model.specs.Server.{command}
-use Rattle.fibs_model.specs.Events.{Event, Open, Click, Plain, Deliver, Lose, Serve}
-use Rattle.fibs_model.specs.Events.{Own, Repeat, Text, Order, Withdraw}
-use Rattle.fibs_model.specs.World.{World, noted, linked, asks, sends, does_heard, hears_all, sends_out}
-use Rattle.fibs_model.specs.World.{clicks, sends_plain, notes_unless, serves, after, talk_of}
+use Rattle.fibs_model.specs.Events.{Event, Open, Click, Plain, Deliver, Lose, Serve, Own, Repeat, Text, Order, Withdraw}
+use Rattle.fibs_model.specs.World.{World, noted, linked, asks, sends, does_heard, hears_all, sends_out, clicks, sends_plain, notes_unless, serves, after, talk_of}
 use Rattle.fibs_model.specs.declared.machine.refusal.WorldRefusal.TheVariants.{AlreadyOpen, NotOpen}
 use Rattle.fibs_model.specs.Refusals.{refusal}
 use Rattle.fibs_model.specs.Talks.{IsWorld, Steps, Silence, Follows, input_of, TalkIsProjected}

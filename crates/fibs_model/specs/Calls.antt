@@ -1,6 +1,5 @@
 -- What the calls of a world do to its log and its wires.
-use Rattle.std.specs.Prelude.{◌≡◌, ℕ, ◌+◌, take, drop, false, not, ◌&&◌, ◌||◌, List, [], ◌∷◌, length}
-use Rattle.std.specs.Prelude.{Option, Some, None, if◌then◌else◌, nat_eq, nat_lt, is_some}
+use Rattle.std.specs.Prelude.{◌≡◌, ℕ, ◌+◌, take, drop, false, not, ◌&&◌, ◌||◌, List, [], ◌∷◌, length, Option, Some, None, if◌then◌else◌, nat_eq, nat_lt, is_some}
 use Rattle.fibs_fields.specs.Board.{BoardFields}
 use Rattle.fibs_position.specs.DecisionValue.{DecisionValue}
 use Rattle.fibs_session.specs.declared.histories.refusal.Refusal.{Refusal}
@@ -18,8 +17,7 @@ use Rattle.fibs_model.specs.ServerOf.{after_line}
 pub use Rattle.fibs_model.specs.ServerOf.{served_entries, is_answered}
 use Rattle.fibs_model.specs.declared.world.link.Link as C
 use Rattle.fibs_model.specs.declared.machine.refusal.WorldRefusal.{WorldRefusal}
-use Rattle.fibs_model.specs.declared.machine.refusal.WorldRefusal.TheVariants.{NoSuchConnection, BadDice}
-use Rattle.fibs_model.specs.declared.machine.refusal.WorldRefusal.TheVariants.{NothingToServe}
+use Rattle.fibs_model.specs.declared.machine.refusal.WorldRefusal.TheVariants.{NoSuchConnection, BadDice, NothingToServe}
 
 -- commands go on the wire to the server
 abbrev pub ask_links : List LinkValue → ℕ → List (List ℕ) → List LinkValue

@@ -1,7 +1,6 @@
 -- Nobody is ever stuck: a world in which a connection is open can come to rest, without a new connection (the project's
 -- own). The server takes the lines that are on their way to it, and the bytes on their way to the client are delivered.
-use Rattle.std.specs.Prelude.{◌≡◌, ℕ, ◌+◌, ◌<◌, ◌≤◌, List, [], ◌∷◌, ◌++◌, Option, Some, None, if◌then◌else◌, is_some}
-use Rattle.std.specs.Prelude.{length}
+use Rattle.std.specs.Prelude.{◌≡◌, ℕ, ◌+◌, ◌<◌, ◌≤◌, List, [], ◌∷◌, ◌++◌, Option, Some, None, if◌then◌else◌, is_some, length}
 use Rattle.fibs_fields.specs.Board.{BoardFields}
 use Rattle.fibs_position.specs.BoardEffect.{IsDie}
 use Rattle.fibs_position.specs.GoodBoard.{IsGood}

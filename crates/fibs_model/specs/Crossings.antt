@@ -5,8 +5,7 @@ use Rattle.fibs_session.specs.History.Words.{open_now}
 use Rattle.fibs_session.specs.History.Machine.{on_wire}
 use Rattle.fibs_model.specs.declared.carriers.carrier.Way.TheVariants.{ToServer, ToClient}
 use Rattle.fibs_model.specs.Carrying.{Crossing, connected, crossed, closed}
-use Rattle.fibs_model.specs.Events.{Event, Open, Click, Plain, Deliver, Lose, Serve}
-use Rattle.fibs_model.specs.Events.{Own, Repeat, Text, Order, Withdraw}
+use Rattle.fibs_model.specs.Events.{Event, Open, Click, Plain, Deliver, Lose, Serve, Own, Repeat, Text, Order, Withdraw}
 use Rattle.fibs_model.specs.LinksOf.{link_at}
 use Rattle.fibs_model.specs.Runs.{world_after}
 use Rattle.fibs_model.specs.Wires.{next_line}

@@ -1,14 +1,11 @@
 -- What the layers below promise, as the headline needs it: their laws in one record. No public contract rests on it.
 use Rattle.std.specs.Prelude.{◌≡◌, ℕ, ◌≤◌, List, length, All}
-use Rattle.fibs_lines.specs.StreamLaws.{EmptyStreamHasNoLine, LinesOnlyGrow, WhatFollowsALineEndReadsAlone}
-use Rattle.fibs_lines.specs.StreamLaws.{SendableTextIsItsLine}
+use Rattle.fibs_lines.specs.StreamLaws.{EmptyStreamHasNoLine, LinesOnlyGrow, WhatFollowsALineEndReadsAlone, SendableTextIsItsLine}
 use Rattle.fibs_fields.specs.Board.{BoardFields, IsBoard, spelling}
 use Rattle.fibs_messages.specs.Line.{ReadingValue, IsReading, IsBoardLine, ReadingIsExact}
 use Rattle.fibs_fields.specs.Printed.{IsPrinted}
-use Rattle.fibs_position.specs.Laws.{GoodIsExact, SameGameIsALikeness, AllowedDecides, AllowedIsADecision, AllowedActs}
-use Rattle.fibs_position.specs.Laws.{AllowedIsExact, SameGameIsExact}
-use Rattle.fibs_commands.specs.CommandLaws.{CommandsArePrinted, ReadCommandIsExact, LoginIsOther, StyleIsOther}
-use Rattle.fibs_commands.specs.CommandLaws.{PlainIsOther, InitialAreOther}
+use Rattle.fibs_position.specs.Laws.{GoodIsExact, SameGameIsALikeness, AllowedDecides, AllowedIsADecision, AllowedActs, AllowedIsExact, SameGameIsExact}
+use Rattle.fibs_commands.specs.CommandLaws.{CommandsArePrinted, ReadCommandIsExact, LoginIsOther, StyleIsOther, PlainIsOther, InitialAreOther}
 use Rattle.fibs_session.specs.History.Orders.{DueOrders}
 
 pub record Owed : Type 0 where

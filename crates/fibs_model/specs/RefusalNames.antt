@@ -1,10 +1,7 @@
 -- The numbers and names of the refusals of events (the project's own).
 use Rattle.std.specs.Prelude.{ℕ, List, codes}
 use Rattle.fibs_model.specs.declared.machine.refusal.WorldRefusal.{WorldRefusal}
-use Rattle.fibs_model.specs.declared.machine.refusal.WorldRefusal.TheVariants.{Memory, AlreadyOpen, NotOpen}
-use Rattle.fibs_model.specs.declared.machine.refusal.WorldRefusal.TheVariants.{NoSuchConnection}
-use Rattle.fibs_model.specs.declared.machine.refusal.WorldRefusal.TheVariants.{NothingToServe, UserDecides, BoardAsText}
-use Rattle.fibs_model.specs.declared.machine.refusal.WorldRefusal.TheVariants.{BadBoard, BadDice}
+use Rattle.fibs_model.specs.declared.machine.refusal.WorldRefusal.TheVariants.{Memory, AlreadyOpen, NotOpen, NoSuchConnection, NothingToServe, UserDecides, BoardAsText, BadBoard, BadDice}
 
 abbrev pub refusal_number : WorldRefusal → ℕ
 refusal_number Memory = 1

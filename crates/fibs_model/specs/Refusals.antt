@@ -1,6 +1,5 @@
 -- Which events are refused: a table, each line with its conditions in order. Memory is no part of it.
-use Rattle.std.specs.Prelude.{Bool, true, false, not, ◌&&◌, ◌||◌, List, [], ◌∷◌, Option, Some, None, if◌then◌else◌}
-use Rattle.std.specs.Prelude.{nat_eq, nat_lt, is_some}
+use Rattle.std.specs.Prelude.{Bool, true, false, not, ◌&&◌, ◌||◌, List, [], ◌∷◌, Option, Some, None, if◌then◌else◌, nat_eq, nat_lt, is_some}
 use Rattle.fibs_lines.specs.Lines.{ReadLine, lines_of}
 use Rattle.fibs_messages.specs.Line.{ReadingValue, numbered_line, board_line, text_line, malformed_line}
 use Rattle.fibs_position.specs.GoodBoard.{good}
@@ -8,13 +7,11 @@ use Rattle.fibs_session.specs.History.Words.{open_now}
 use Rattle.fibs_session.specs.History.Hearing.{line_reading}
 use Rattle.fibs_session.specs.History.Machine.{on_wire}
 use Rattle.fibs_model.specs.declared.machine.refusal.WorldRefusal.{WorldRefusal}
-use Rattle.fibs_model.specs.declared.machine.refusal.WorldRefusal.TheVariants.{AlreadyOpen, NotOpen, NoSuchConnection}
-use Rattle.fibs_model.specs.declared.machine.refusal.WorldRefusal.TheVariants.{NothingToServe, BoardAsText, BadDice}
+use Rattle.fibs_model.specs.declared.machine.refusal.WorldRefusal.TheVariants.{AlreadyOpen, NotOpen, NoSuchConnection, NothingToServe, BoardAsText, BadDice}
 use Rattle.fibs_model.specs.Wires.{next_line}
 use Rattle.fibs_position.specs.BoardEffect.{is_die}
 use Rattle.fibs_model.specs.Server.{own_refusal}
-use Rattle.fibs_model.specs.Events.{Event, Open, Click, Plain, Deliver, Lose, Serve}
-use Rattle.fibs_model.specs.Events.{Own, Repeat, Text, Order, Withdraw}
+use Rattle.fibs_model.specs.Events.{Event, Open, Click, Plain, Deliver, Lose, Serve, Own, Repeat, Text, Order, Withdraw}
 use Rattle.fibs_model.specs.World.{World}
 
 -- a good board

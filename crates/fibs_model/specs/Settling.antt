@@ -1,6 +1,5 @@
 -- What settling promises: the world comes to rest, and client and server agree.
-use Rattle.std.specs.Prelude.{◌≡◌, ℕ, ◌+◌, ◌≤◌, not, ◌&&◌, List, ◌++◌, Option, Some, None, if◌then◌else◌}
-use Rattle.std.specs.Prelude.{nat_eq, length}
+use Rattle.std.specs.Prelude.{◌≡◌, ℕ, ◌+◌, ◌≤◌, not, ◌&&◌, List, ◌++◌, Option, Some, None, if◌then◌else◌, nat_eq, length}
 use Rattle.fibs_fields.specs.Board.{BoardFields}
 use Rattle.fibs_position.specs.BoardEffect.{is_die}
 use Rattle.fibs_commands.specs.Logins.{login_text}

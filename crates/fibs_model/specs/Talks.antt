@@ -6,8 +6,7 @@ use Rattle.fibs_session.specs.History.Words.{open_now, connections}
 use Rattle.fibs_session.specs.History.Machine.{InputValue, step, noted, wire_of}
 use Rattle.fibs_session.specs.History.Machine as M
 use Rattle.fibs_session.specs.History.MachineLaws.{IsServers}
-use Rattle.fibs_model.specs.Events.{Event, Open, Click, Plain, Deliver, Lose, Serve}
-use Rattle.fibs_model.specs.Events.{Own, Repeat, Text, Order, Withdraw}
+use Rattle.fibs_model.specs.Events.{Event, Open, Click, Plain, Deliver, Lose, Serve, Own, Repeat, Text, Order, Withdraw}
 use Rattle.fibs_model.specs.World.{World, start, after, talk_of}
 use Rattle.fibs_model.specs.Refusals.{refusal}
 

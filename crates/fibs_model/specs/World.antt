@@ -1,7 +1,6 @@
 -- The world as a machine over events: a server, the wires to its connections, and the log of what happened. It holds no
 -- client: what a client answers is read from the log and from the commands handed out, by the client's own definitions.
-use Rattle.std.specs.Prelude.{ℕ, ◌+◌, Bool, not, ◌&&◌, List, [], ◌∷◌, ◌++◌, Option, Some, None, if◌then◌else◌, nat_eq}
-use Rattle.std.specs.Prelude.{take}
+use Rattle.std.specs.Prelude.{ℕ, ◌+◌, Bool, not, ◌&&◌, List, [], ◌∷◌, ◌++◌, Option, Some, None, if◌then◌else◌, nat_eq, take}
 use Rattle.fibs_lines.specs.Lines.{ReadLine}
 use Rattle.fibs_fields.specs.Board.{BoardFields, spelling}
 use Rattle.fibs_messages.specs.Line.{ReadingValue}
@@ -15,13 +14,10 @@ use Rattle.fibs_session.specs.History.Log as L
 use Rattle.fibs_session.specs.History.Words.{is_empty, last, open_now, shown, unconfirmed, answer}
 use Rattle.fibs_session.specs.History.Hearing.{Heard, heard, line_reading}
 use Rattle.fibs_session.specs.History.Allows.{allows}
-use Rattle.fibs_session.specs.History.Machine.{Talk, gained, on_wire, wire_of, plain_refusal}
-use Rattle.fibs_session.specs.History.Machine.{order_refusal, withdraw_refusal}
+use Rattle.fibs_session.specs.History.Machine.{Talk, gained, on_wire, wire_of, plain_refusal, order_refusal, withdraw_refusal}
 use Rattle.fibs_model.specs.Wires.{Link, empty_link, more_coming, delivered, more_asked, taken, cut_off, next_line}
-use Rattle.fibs_model.specs.Server.{ServerValue, TakenLine, Served, Stale, LoggedIn, Took, Undone, Answered}
-use Rattle.fibs_model.specs.Server.{answered, command}
-use Rattle.fibs_model.specs.Events.{Event, Open, Click, Plain, Deliver, Lose, Serve}
-use Rattle.fibs_model.specs.Events.{Own, Repeat, Text, Order, Withdraw}
+use Rattle.fibs_model.specs.Server.{ServerValue, TakenLine, Served, Stale, LoggedIn, Took, Undone, Answered, answered, command}
+use Rattle.fibs_model.specs.Events.{Event, Open, Click, Plain, Deliver, Lose, Serve, Own, Repeat, Text, Order, Withdraw}
 
 pub record World : Type 0 where
   -- the server's board

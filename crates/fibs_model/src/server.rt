@@ -7,8 +7,7 @@ ghost use Rattle.fibs_fields.specs.StoredBoard.{fields_of};
 ghost use Rattle.fibs_position.specs.DecisionValue.{decision_of};
 ghost use Rattle.fibs_position.specs.DirectionOf.{direction_of};
 ghost use Rattle.fibs_position.specs.First.{IsFirst};
-ghost use Rattle.fibs_position.specs.GoodBoard.{IsGood, HasFault, faults};
-ghost use Rattle.fibs_position.specs.GoodBoard.{good};
+ghost use Rattle.fibs_position.specs.GoodBoard.{IsGood, HasFault, faults, good};
 ghost use Rattle.fibs_position.specs.GameOf.{game_of};
 ghost use Rattle.fibs_model.specs.Server.{answered, obeyed, own_refusal, user_decides};
 

@@ -1,9 +1,7 @@
 //! Wires, and the bytes on them.
 
-ghost use Rattle.std.specs.Prelude.{◌≡◌, ◌≤◌, ◌<◌, ◌+◌, ◌-◌, ◌*◌, ◌++◌, [], length, take, drop, count_by, max};
-ghost use Rattle.std.specs.Prelude.{IfSome, IfOk, OnOk, OnErr, option_map, vec_len, vec_capacity};
-ghost use Rattle.fibs_lines.specs.Lines.{value_of};
-ghost use Rattle.fibs_lines.specs.Lines.{is_line_end, lines_of};
+ghost use Rattle.std.specs.Prelude.{◌≡◌, ◌≤◌, ◌<◌, ◌+◌, ◌-◌, ◌*◌, ◌++◌, [], length, take, drop, count_by, max, IfSome, IfOk, OnOk, OnErr, option_map, vec_len, vec_capacity};
+ghost use Rattle.fibs_lines.specs.Lines.{value_of, is_line_end, lines_of};
 ghost use Rattle.fibs_session.specs.History.Hearing.{line_reading};
 ghost use Rattle.fibs_session.specs.History.Machine.{on_wire};
 ghost use Rattle.fibs_model.specs.Refusals.{is_board_text, reads_as_board};

@@ -1,8 +1,6 @@
 //! The world: a server, a client, and the wires between them.
 
-ghost use Rattle.std.specs.Prelude.{◌≡◌, ◌≤◌, ◌↔◌, ◌++◌, ℕ, List, [], None, Some, Option, IfOk, OnErr};
-ghost use Rattle.std.specs.Prelude.{true, IsErrOf, OnOk, length, map, take, drop, option_map, slice_index};
-ghost use Rattle.std.specs.Prelude.{if◌then◌else◌};
+ghost use Rattle.std.specs.Prelude.{◌≡◌, ◌≤◌, ◌↔◌, ◌++◌, ℕ, List, [], None, Some, Option, IfOk, OnErr, true, IsErrOf, OnOk, length, map, take, drop, option_map, slice_index, if◌then◌else◌};
 ghost use Rattle.std.specs.Option.{option_copied};
 ghost use Rattle.std.specs.Result.{result_err};
 ghost use Rattle.fibs_fields.specs.Board.{BoardFields};

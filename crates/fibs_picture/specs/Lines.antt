@@ -4,8 +4,7 @@ use Rattle.fibs_fields.specs.Board.{BoardFields, field_of}
 use Rattle.fibs_position.specs.OwnView.{turn, colour}
 use Rattle.fibs_position.specs.PositionValue.{PositionValue}
 use Rattle.fibs_picture.specs.Cells.{own_letter, other_letter}
-use Rattle.fibs_picture.specs.Picture.{edge, layer, middle, named, score, off, pips, own_pips, other_pips, dice}
-use Rattle.fibs_picture.specs.Picture.{match_length, cube, turn_words, deed_in}
+use Rattle.fibs_picture.specs.Picture.{edge, layer, middle, named, score, off, pips, own_pips, other_pips, dice, match_length, cube, turn_words, deed_in}
 use Rattle.fibs_picture.specs.Watched.{watched_cube, watched_turn}
 use Rattle.fibs_picture.specs.declared.half.Half.TheVariants as half
 use Rattle.fibs_picture.specs.declared.lines.Drawn.{Drawn}

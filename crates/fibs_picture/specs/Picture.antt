@@ -1,8 +1,7 @@
 -- The picture of a board, seen by its player (the project's own, after the boards that FIBS and gnubg draw): 14 lines
 -- of plain ASCII, of at most 79 columns. The player's checkers are O and go round to the lower right, the opponent's
 -- are X. At the left of a line is what is drawn, at its right the words.
-use Rattle.std.specs.Prelude.{◌+◌, ◌-◌, ◌*◌, ◌++◌, ◌&&◌, ◌==◌, ℕ, ℤ, pos, Bool, true, false, List, [], ◌∷◌, codes}
-use Rattle.std.specs.Prelude.{decimal, map, sum, take, slice_index, is_none, if◌then◌else◌}
+use Rattle.std.specs.Prelude.{◌+◌, ◌-◌, ◌*◌, ◌++◌, ◌&&◌, ◌==◌, ℕ, ℤ, pos, Bool, true, false, List, [], ◌∷◌, codes, decimal, map, sum, take, slice_index, is_none, if◌then◌else◌}
 use Rattle.std.specs.Fmt.{signed_decimal}
 use Rattle.std.specs.List.{flat_map, range_with_len}
 use Rattle.std.specs.Ordering.{int_eq}

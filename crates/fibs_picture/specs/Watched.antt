@@ -9,8 +9,7 @@ use Rattle.fibs_fields.specs.Board.{BoardFields, field_of}
 use Rattle.fibs_position.specs.OwnView.{turn, colour}
 use Rattle.fibs_position.specs.PositionValue.{PositionValue, position_of}
 use Rattle.fibs_picture.specs.Cells.{own_letter, other_letter}
-use Rattle.fibs_picture.specs.Picture.{edge, layer, middle, named, score, off, pips, own_pips, other_pips, dice}
-use Rattle.fibs_picture.specs.Picture.{match_length, is_one, line}
+use Rattle.fibs_picture.specs.Picture.{edge, layer, middle, named, score, off, pips, own_pips, other_pips, dice, match_length, is_one, line}
 use Rattle.fibs_picture.specs.declared.half.Half.TheVariants as half
 
 -- a letter, and that something is a player's

@@ -3,9 +3,7 @@
 -- The effect asks for less than the rules do. For a move it asks that at each step a checker is at the source and no
 -- two of the opponent's at the target. It asks nothing about how far a step goes, the bar, bearing off or the fullest
 -- use of the dice.
-use Rattle.std.specs.Prelude.{◌≡◌, ◌≢◌, ◌≤ℤ◌, ◌<◌, ◌≤◌, ◌==◌, ◌+ℤ◌, ◌-ℤ◌, ◌-◌, ◌++◌, ◌&&◌, not, int_le, nat_lt, nat_le}
-use Rattle.std.specs.Prelude.{ℕ, ℤ, pos, neg_ℤ, Bool, Option, Some, None, option_map, List, [], ◌∷◌, map, slice_set}
-use Rattle.std.specs.Prelude.{slice_index, if◌then◌else◌}
+use Rattle.std.specs.Prelude.{◌≡◌, ◌≢◌, ◌≤ℤ◌, ◌<◌, ◌≤◌, ◌==◌, ◌+ℤ◌, ◌-ℤ◌, ◌-◌, ◌++◌, ◌&&◌, not, int_le, nat_lt, nat_le, ℕ, ℤ, pos, neg_ℤ, Bool, Option, Some, None, option_map, List, [], ◌∷◌, map, slice_set, slice_index, if◌then◌else◌}
 use Rattle.std.specs.Ordering.{int_eq}
 use Rattle.fibs_fields.specs.Board.{BoardFields, field_of}
 use Rattle.fibs_position.specs.OwnView.{turn, colour, NoDice, no_dice, own_view, place_field, places}

@@ -1,6 +1,5 @@
 -- A board as its player sees it (FIBS board style 3; the standard rules of backgammon).
-use Rattle.std.specs.Prelude.{◌≡◌, ◌==◌, ◌&&◌, ◌+◌, ◌-◌, ℕ, ℤ, pos, neg_ℤ, Bool, List, [], ◌∷◌, ◌++◌, map, sum}
-use Rattle.std.specs.Prelude.{if◌then◌else◌}
+use Rattle.std.specs.Prelude.{◌≡◌, ◌==◌, ◌&&◌, ◌+◌, ◌-◌, ℕ, ℤ, pos, neg_ℤ, Bool, List, [], ◌∷◌, ◌++◌, map, sum, if◌then◌else◌}
 use Rattle.std.specs.Ordering.{int_eq}
 use Rattle.std.specs.List.{range_with_len}
 use Rattle.fibs_fields.specs.FieldReading.{natural}

@@ -1,12 +1,9 @@
 //! The board after the server carries a decision out.
 
-ghost use Rattle.std.specs.Prelude.{◌≡◌, ◌↔◌, ◌≤◌, ◌≤ℤ◌, ◌&&◌, not, ℕ, List, pos, negsuc, true, IsTrue, Some};
-ghost use Rattle.std.specs.Prelude.{option_map, slice_index, ◌==◌, if◌then◌else◌, neg_ℤ};
+ghost use Rattle.std.specs.Prelude.{◌≡◌, ◌↔◌, ◌≤◌, ◌≤ℤ◌, ◌&&◌, not, ℕ, List, pos, negsuc, true, IsTrue, Some, option_map, slice_index, ◌==◌, if◌then◌else◌, neg_ℤ};
 ghost use Rattle.fibs_fields.specs.Board.{BoardFields, can_have, field_of};
 ghost use Rattle.fibs_fields.specs.StoredBoard.{fields_of};
-ghost use Rattle.fibs_position.specs.BoardEffect.{set_field, set_fields, rolled, turn_given, accepted, rejected};
-ghost use Rattle.fibs_position.specs.BoardEffect.{value_of, placed, after_move, Effect, is_die, are_thrown, has_turn};
-ghost use Rattle.fibs_position.specs.BoardEffect.{is_doubled, carried, effect_of};
+ghost use Rattle.fibs_position.specs.BoardEffect.{set_field, set_fields, rolled, turn_given, accepted, rejected, value_of, placed, after_move, Effect, is_die, are_thrown, has_turn, is_doubled, carried, effect_of};
 ghost use Rattle.fibs_position.specs.DecisionValue.{roll, double, accept, reject, move, resign, decision_of};
 ghost use Rattle.fibs_rules.specs.PlayValue.{hops_of};
 ghost use Rattle.fibs_position.specs.OwnView.{colour, no_dice, own_placed, other_placed};

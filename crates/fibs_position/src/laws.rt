@@ -2,10 +2,7 @@
 
 ghost use Rattle.std.specs.Prelude.{◌≡◌, ◌↔◌, IsTrue};
 ghost use Rattle.fibs_position.specs.DecisionValue.{decision_of};
-ghost use Rattle.fibs_position.specs.Laws.{PhaseIsExact, AllowedIsExact, EffectIsExact, AllowedIsTheUsers};
-ghost use Rattle.fibs_position.specs.Laws.{AllowedIsCarriedOut, EffectIsGood, GoodIsExact, SameGameIsExact};
-ghost use Rattle.fibs_position.specs.Laws.{SameGameIsALikeness, AllowedDecides, AllowedIsADecision};
-ghost use Rattle.fibs_position.specs.Laws.{DecisionsAreValid, AllowedActs, NoThreeInARow};
+ghost use Rattle.fibs_position.specs.Laws.{PhaseIsExact, AllowedIsExact, EffectIsExact, AllowedIsTheUsers, AllowedIsCarriedOut, EffectIsGood, GoodIsExact, SameGameIsExact, SameGameIsALikeness, AllowedDecides, AllowedIsADecision, DecisionsAreValid, AllowedActs, NoThreeInARow};
 ghost use Rattle.fibs_position.specs.Watched.{WatchedIsExact, WatchedIsNotGood};
 
 use crate::decision::Decision;

@@ -4,9 +4,7 @@ ghost use Rattle.std.specs.Prelude.{◌≡◌, ◌⊎◌, ◌+◌, ◌-◌, ◌�
 ghost use Rattle.fibs_fields.specs.FieldReading.{natural};
 ghost use Rattle.fibs_fields.specs.Board.{field_of};
 ghost use Rattle.fibs_fields.specs.StoredBoard.{fields_of};
-ghost use Rattle.fibs_position.specs.OwnView.{colour, place_field, stand_on, on_places, own_on_places, other_on_places};
-ghost use Rattle.fibs_position.specs.OwnView.{own_off, other_off, own_placed, other_placed, own_view};
-ghost use Rattle.fibs_position.specs.OwnView.{first_die, second_die, no_dice};
+ghost use Rattle.fibs_position.specs.OwnView.{colour, place_field, stand_on, on_places, own_on_places, other_on_places, own_off, other_off, own_placed, other_placed, own_view, first_die, second_die, no_dice};
 
 use crate::direction::Direction;
 use fibs_fields::boards::Board;

@@ -1,8 +1,7 @@
 //! Positions: boards seen from their players' side.
 #![tactic(auto, unfolding(crate::specs::PositionValue::position_value))]
 
-ghost use Rattle.std.specs.Prelude.{◌≡◌, ◌≤◌, ◌↔◌, ◌&&◌, ◌∷◌, [], IsOk, is_ok, IfOk, IsTrue, Err, codes, map, sum};
-ghost use Rattle.std.specs.Prelude.{slice_index};
+ghost use Rattle.std.specs.Prelude.{◌≡◌, ◌≤◌, ◌↔◌, ◌&&◌, ◌∷◌, [], IsOk, is_ok, IfOk, IsTrue, Err, codes, map, sum, slice_index};
 ghost use Rattle.std.specs.Result.{result_err};
 ghost use Rattle.fibs_fields.specs.StoredBoard.{fields_of};
 ghost use Rattle.fibs_position.specs.OwnView.{own_view, own_placed, other_placed};

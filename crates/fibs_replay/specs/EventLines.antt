@@ -7,8 +7,7 @@ use Rattle.fibs_position.specs.declared.direction.Direction.TheVariants.{Down}
 use Rattle.fibs_commands.specs.CommandReading.{ReadCommand}
 use Rattle.fibs_commands.specs.PlainCommands.{PlainValue}
 use Rattle.fibs_commands.specs.PlainReading.{ReadsAs, TextField}
-use Rattle.fibs_model.specs.Events.{Event, Open, Click, Plain, Deliver, Lose, Serve}
-use Rattle.fibs_model.specs.Events.{Own, Repeat, Text, Order, Withdraw}
+use Rattle.fibs_model.specs.Events.{Event, Open, Click, Plain, Deliver, Lose, Serve, Own, Repeat, Text, Order, Withdraw}
 
 -- the greatest number of a connection, and of bytes
 abbrev pub count_limit : ℕ

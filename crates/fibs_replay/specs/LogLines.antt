@@ -4,8 +4,7 @@ use Rattle.std.specs.Prelude.{◌++◌, ℕ, Bool, List, ◌∷◌, [], codes, d
 use Rattle.fibs_fields.specs.Board.{spelling}
 use Rattle.fibs_session.specs.declared.histories.refusal.Refusal.{Refusal}
 use Rattle.fibs_session.specs.History.Asked.{asked_text}
-use Rattle.fibs_session.specs.History.Log.{Entry, Opened, LoggedIn, Welcomed, Informed, Shown, Clicked, Sent, Took}
-use Rattle.fibs_session.specs.History.Log.{Undone, Lost, Ordered, Withdrawn}
+use Rattle.fibs_session.specs.History.Log.{Entry, Opened, LoggedIn, Welcomed, Informed, Shown, Clicked, Sent, Took, Undone, Lost, Ordered, Withdrawn}
 use Rattle.fibs_session.specs.History.Refusals.{refusal_name}
 use Rattle.fibs_session.specs.History.Words.{Ask}
 use Rattle.fibs_engine.specs.Printing.{line_bytes}

@@ -1,9 +1,8 @@
 -- How a text that is written in portions passes to its writer. No public contract rests on it.
 use Rattle.std.specs.Prelude.{◌≡◌, ◌≤◌, ◌+◌, ℕ, List, ◌++◌, length, Option}
 use Rattle.std.specs.Io.KnownBytes.{Appends}
-use Rattle.fibs_engine.specs.Writing.{GainedFront}
+use Rattle.fibs_engine.specs.Writing.{GainedFront, Progress, Whole, Broken}
 use Rattle.fibs_replay.specs.Limits.{write_len}
-use Rattle.fibs_engine.specs.Writing.{Progress, Whole, Broken}
 
 -- a writer gained a front of the text, and the rest of it is left
 abbrev pub Passed : Option (List ℕ) → Option (List ℕ) → List ℕ → List ℕ → Type 0

@@ -5,14 +5,12 @@ ghost use Rattle.fibs_fields.specs.Board.{BoardText};
 ghost use Rattle.fibs_fields.specs.Decimal.{decimal_up_to};
 ghost use Rattle.fibs_fields.specs.StoredBoard.{fields_of};
 ghost use Rattle.fibs_model.specs.EventOf.{event_of};
-ghost use Rattle.fibs_model.specs.Events.{Event as EventValue};
-ghost use Rattle.fibs_model.specs.Events.{Click, Plain, Deliver, Lose, Own};
+ghost use Rattle.fibs_model.specs.Events.{Event as EventValue, Click, Plain, Deliver, Lose, Own};
 ghost use Rattle.fibs_commands.specs.CommandReading.{read_command};
 ghost use Rattle.fibs_commands.specs.PlainReading.{read_plain};
 ghost use Rattle.fibs_position.specs.declared.direction.Direction.TheVariants.{Down};
 ghost use Rattle.fibs_replay.specs.EventLines.{SaysEvent};
-ghost use Rattle.fibs_replay.specs.EventReading.{alone_in, board_in, event_in, joined_in, of_roll};
-ghost use Rattle.fibs_replay.specs.EventReading.{serving_in};
+ghost use Rattle.fibs_replay.specs.EventReading.{alone_in, board_in, event_in, joined_in, of_roll, serving_in};
 ghost use Rattle.fibs_replay.specs.Scripts.{IsNoBoard, IsNoEvent};
 
 use crate::laws::events_are_exact;

@@ -1,17 +1,14 @@
 //! The lines that are printed for the entries of the log.
-ghost use Rattle.std.specs.Prelude.{◌≡◌, ◌≤◌, ◌+◌, ◌++◌, ◌∷◌, length};
+ghost use Rattle.std.specs.Prelude.{◌≡◌, ◌≤◌, ◌+◌, ◌++◌, ◌∷◌, length, option_map};
 ghost use Rattle.std.specs.Result.{result_err};
-ghost use Rattle.std.specs.Prelude.{option_map};
 ghost use Rattle.arrayvec.specs.ArrayVec.{array_vec_len};
 ghost use Rattle.fibs_fields.specs.Board.{spelling};
 ghost use Rattle.fibs_fields.specs.StoredBoard.{fields_of};
 ghost use Rattle.fibs_session.specs.Calls.SessionOf.{ask_of};
 ghost use Rattle.fibs_model.specs.EntryOf.{entry_of};
 ghost use Rattle.fibs_engine.specs.Printing.{line_bytes};
-ghost use Rattle.fibs_replay.specs.LogLines.{answer_text, ask_text, entry_line, flag_text, of_connection};
-ghost use Rattle.fibs_replay.specs.LogLines.{unconfirmed_text};
-ghost use Rattle.fibs_replay.specs.Limits.{ask_len, board_len, entry_len, flag_len, number_len, write_len};
-ghost use Rattle.fibs_replay.specs.Limits.{answer_len, said_len};
+ghost use Rattle.fibs_replay.specs.LogLines.{answer_text, ask_text, entry_line, flag_text, of_connection, unconfirmed_text};
+ghost use Rattle.fibs_replay.specs.Limits.{ask_len, board_len, entry_len, flag_len, number_len, write_len, answer_len, said_len};
 
 use crate::limits::WRITE_LEN;
 use arrayvec::ArrayVec;

@@ -1,6 +1,5 @@
 -- The checkers of both sides, and what one checker's way makes of them (rules of backgammon).
-use Rattle.std.specs.Prelude.{◌≡◌, ℕ, ◌+◌, ◌-◌, ◌<◌, ◌&&◌, ◌||◌, ◌==◌, nat_lt, Bool, List, drop, slice_index, slice_set}
-use Rattle.std.specs.Prelude.{if◌then◌else◌}
+use Rattle.std.specs.Prelude.{◌≡◌, ℕ, ◌+◌, ◌-◌, ◌<◌, ◌&&◌, ◌||◌, ◌==◌, nat_lt, Bool, List, drop, slice_index, slice_set, if◌then◌else◌}
 use Rattle.std.specs.List.{list_all}
 
 -- How many checkers are on each place, in the player's own numbering. Of the player's own, place 25 is the bar and

@@ -1,6 +1,5 @@
 -- One checker by one die (rules of backgammon): four ways to go, each to a free place or with a hit.
-use Rattle.std.specs.Prelude.{◌≡◌, ℕ, ◌+◌, ◌-◌, ◌<◌, ◌≤◌, ◌==◌, ◌&&◌, ◌||◌, ◌⊎◌, Bool, nat_lt, nat_le, slice_index}
-use Rattle.std.specs.Prelude.{Option, Some, None, if◌then◌else◌}
+use Rattle.std.specs.Prelude.{◌≡◌, ℕ, ◌+◌, ◌-◌, ◌<◌, ◌≤◌, ◌==◌, ◌&&◌, ◌||◌, ◌⊎◌, Bool, nat_lt, nat_le, slice_index, Option, Some, None, if◌then◌else◌}
 use Rattle.fibs_rules.specs.Checkers.{Checkers, IsOpen, AllHome, moved, is_empty_from, is_open}
 
 -- from the bar, to the place that the die counts from 25 down

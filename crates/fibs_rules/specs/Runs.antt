@@ -1,6 +1,5 @@
 -- Steps played one after another by the dice held (rules of backgammon).
-use Rattle.std.specs.Prelude.{◌≡◌, ℕ, zero, suc, ◌<◌, ◌≤◌, ◌==◌, ◌-◌, ◌&&◌, ◌||◌, Bool, true, false, max, nat_lt, List}
-use Rattle.std.specs.Prelude.{[], ◌∷◌, length, ◌++◌, Option, Some, None, if◌then◌else◌}
+use Rattle.std.specs.Prelude.{◌≡◌, ℕ, zero, suc, ◌<◌, ◌≤◌, ◌==◌, ◌-◌, ◌&&◌, ◌||◌, Bool, true, false, max, nat_lt, List, [], ◌∷◌, length, ◌++◌, Option, Some, None, if◌then◌else◌}
 use Rattle.fibs_rules.specs.Hop.{Hop}
 use Rattle.fibs_rules.specs.Checkers.{Checkers}
 use Rattle.fibs_rules.specs.OneChecker.{One, one_of}

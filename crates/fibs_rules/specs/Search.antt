@@ -1,6 +1,5 @@
 -- What the code computes as it collects the plays. Only proofs use this file: no public clause rests on it.
-use Rattle.std.specs.Prelude.{ℕ, zero, suc, ◌-◌, ◌<◌, ◌≤◌, ◌==◌, ◌&&◌, max, List, [], ◌∷◌, ◌++◌, take, Option, Some}
-use Rattle.std.specs.Prelude.{None, if◌then◌else◌, option_map}
+use Rattle.std.specs.Prelude.{ℕ, zero, suc, ◌-◌, ◌<◌, ◌≤◌, ◌==◌, ◌&&◌, max, List, [], ◌∷◌, ◌++◌, take, Option, Some, None, if◌then◌else◌, option_map}
 use Rattle.std.specs.Ordering.{is_lt}
 use Rattle.std.specs.HashMap.{HashMap, get}
 use Rattle.fibs_rules.specs.Hop.{Hop}

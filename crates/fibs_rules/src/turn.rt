@@ -5,8 +5,7 @@ ghost use Rattle.std.specs.List.{fold};
 ghost use Rattle.fibs_rules.specs.Hop.{hop_of};
 ghost use Rattle.fibs_rules.specs.PlayValue.{hops_of};
 ghost use Rattle.fibs_rules.specs.Search.{AreDice, kept_in, nothing, noted, all_in_order, all_of};
-ghost use Rattle.fibs_rules.specs.Runs.{Standing, held_of, IsMost, CanMove, most_of, longest, follows, can_play};
-ghost use Rattle.fibs_rules.specs.Runs.{can_move};
+ghost use Rattle.fibs_rules.specs.Runs.{Standing, held_of, IsMost, CanMove, most_of, longest, follows, can_play, can_move};
 ghost use Rattle.fibs_rules.specs.LegalPlays.{LegalPlay, PlayList, are_two, larger_first, legal_of};
 
 use crate::arrangement::Arrangement;

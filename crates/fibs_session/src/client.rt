@@ -12,9 +12,7 @@ ghost use Rattle.fibs_position.specs.DirectionOf.{direction_of};
 ghost use Rattle.fibs_position.specs.GameOf.{game_of};
 ghost use Rattle.fibs_session.specs.Calls.Doing.{Does};
 ghost use Rattle.fibs_session.specs.Calls.Standing.{StandsAfter};
-ghost use Rattle.fibs_session.specs.History.Machine.{Talk, start, Open, Lose, Piece, Click, PlainInput, open_refusal};
-ghost use Rattle.fibs_session.specs.History.Machine.{unconfirmed_now, answer_now, plain_refusal, shown_now};
-ghost use Rattle.fibs_session.specs.History.Machine.{Order, Withdraw, order_refusal, withdraw_refusal, ordered_now};
+ghost use Rattle.fibs_session.specs.History.Machine.{Talk, start, Open, Lose, Piece, Click, PlainInput, open_refusal, unconfirmed_now, answer_now, plain_refusal, shown_now, Order, Withdraw, order_refusal, withdraw_refusal, ordered_now};
 ghost use Rattle.fibs_commands.specs.LoginOf.{login_of};
 ghost use Rattle.fibs_commands.specs.PlainOf.{plain_value};
 

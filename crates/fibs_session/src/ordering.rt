@@ -3,8 +3,7 @@
 ghost use Rattle.std.specs.Prelude.{◌≡◌, IsErr, true, false};
 ghost use Rattle.std.specs.Result.{result_err};
 ghost use Rattle.fibs_position.specs.GameOf.{game_of};
-ghost use Rattle.fibs_session.specs.Calls.FieldSteps.{due_of, due_now, order_refusal_of, withdraw_refusal_of};
-ghost use Rattle.fibs_session.specs.Calls.FieldSteps.{with_order};
+ghost use Rattle.fibs_session.specs.Calls.FieldSteps.{due_of, due_now, order_refusal_of, withdraw_refusal_of, with_order};
 
 use crate::histories::Refusal;
 use crate::session::Session;

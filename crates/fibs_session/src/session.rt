@@ -11,9 +11,7 @@ ghost use Rattle.fibs_position.specs.GameOf.{game_of};
 ghost use Rattle.fibs_session.specs.Calls.Doing.{SessionDoes, SessionHears};
 ghost use Rattle.fibs_session.specs.Calls.Standing.{SessionStandsAfter};
 ghost use Rattle.fibs_session.specs.History.Hearing.{line_reading};
-ghost use Rattle.fibs_session.specs.History.Machine.{Talk, start, Open, Lose, Click, PlainInput, open_refusal};
-ghost use Rattle.fibs_session.specs.History.Machine.{unconfirmed_now, answer_now, plain_refusal, shown_now};
-ghost use Rattle.fibs_session.specs.History.Machine.{Order, Withdraw, order_refusal, withdraw_refusal, ordered_now};
+ghost use Rattle.fibs_session.specs.History.Machine.{Talk, start, Open, Lose, Click, PlainInput, open_refusal, unconfirmed_now, answer_now, plain_refusal, shown_now, Order, Withdraw, order_refusal, withdraw_refusal, ordered_now};
 ghost use Rattle.fibs_commands.specs.LoginOf.{login_of};
 ghost use Rattle.fibs_commands.specs.PlainOf.{plain_value};
 

@@ -1,17 +1,14 @@
 -- What is printed for a message that is said by a line of literal bytes is literal.
-use Rattle.std.proofs.Common.{◌≡◌, ℕ, ◌+◌, ◌<◌, ◌/◌, ◌%◌, ◌^◌, true, ◌&&◌, List, [], ◌∷◌, ◌++◌, replicate}
-use Rattle.std.proofs.Common.{refl, sym, ap, subst, ◌∙◌, arith}
+use Rattle.std.proofs.Common.{◌≡◌, ℕ, ◌+◌, ◌<◌, ◌/◌, ◌%◌, ◌^◌, true, ◌&&◌, List, [], ◌∷◌, ◌++◌, replicate, refl, sym, ap, subst, ◌∙◌, arith}
 use Rattle.std.specs.Fmt.{decimal}
 use Rattle.std.specs.List.{list_all, flat_map}
 use Rattle.std.proofs.lemmas.Bool.{and_parts}
 use Rattle.std.proofs.lemmas.Fmt.{decimal_by_steps}
 use Rattle.std.proofs.lemmas.List.Folds.{list_all-append}
 use Rattle.fibs_lines.specs.Literal.{is_literal}
-use Rattle.fibs_fields.specs.Field.{FieldValue, NameField, WordField, TailField, FlagField, NumberField, RatingField}
-use Rattle.fibs_fields.specs.Field.{TextField, Spells}
+use Rattle.fibs_fields.specs.Field.{FieldValue, NameField, WordField, TailField, FlagField, NumberField, RatingField, TextField, Spells}
 use Rattle.fibs_fields.specs.Rating.{printed_rating}
-use Rattle.fibs_messages.specs.Message.{MessageValue, MessageText, FieldText, spelled, no_text, FieldsText, no_fields}
-use Rattle.fibs_messages.specs.Message.{more_fields, canonical, canonical_field}
+use Rattle.fibs_messages.specs.Message.{MessageValue, MessageText, FieldText, spelled, no_text, FieldsText, no_fields, more_fields, canonical, canonical_field}
 
 -- each byte is literal
 abbrev Literal : List ℕ → Type 0

@@ -1,6 +1,5 @@
 -- The lines of `fibs plays`.
-use Rattle.std.proofs.Common.{◌≡◌, ℕ, List, [], ◌∷◌, sym, arith, subst, inl, inr}
-use Rattle.std.proofs.Common.{Result, Ok, Err, IsErrOf, MatchResult}
+use Rattle.std.proofs.Common.{◌≡◌, ℕ, List, [], ◌∷◌, sym, arith, subst, inl, inr, Result, Ok, Err, IsErrOf, MatchResult}
 use Rattle.fibs_fields.specs.Board.{BoardFields}
 use Rattle.fibs_messages.specs.Line.{ReadingValue, board_line}
 use Rattle.fibs_position.specs.First.{IsFirst}

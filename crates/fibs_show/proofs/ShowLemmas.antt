@@ -1,8 +1,5 @@
 -- The lines that are printed, one after the other.
-use Rattle.std.proofs.Common.{◌≡◌, ℕ, ◌≤◌, List, [], ◌∷◌, ◌++◌, Bool, true, false, Option, None, Some, Result, Ok, Err}
-use Rattle.std.proofs.Common.{OnOk, refl, sym, ap, subst, ◌∙◌, append_assoc, take, drop}
-use Rattle.std.proofs.Common.{length, codes, arith, ◌+◌, ◌-◌}
-use Rattle.std.proofs.Common.{not, true≢false, is_some, ◌||◌}
+use Rattle.std.proofs.Common.{◌≡◌, ℕ, ◌≤◌, List, [], ◌∷◌, ◌++◌, Bool, true, false, Option, None, Some, Result, Ok, Err, OnOk, refl, sym, ap, subst, ◌∙◌, append_assoc, take, drop, length, codes, arith, ◌+◌, ◌-◌, not, true≢false, is_some, ◌||◌}
 use Rattle.std.specs.List.{list_all, list_any}
 use Rattle.std.proofs.lemmas.Bool.{and_parts}
 use Rattle.std.specs.Prelude.{◌↔◌}

@@ -1,6 +1,5 @@
 -- Numbers of a board's line that are right, one after another. No public contract rests on this.
-use Rattle.std.specs.Prelude.{◌≡◌, ◌==◌, ◌&&◌, ◌++◌, ◌+◌, ◌<◌, ◌≤◌, ℕ, Bool, not, is_none, List, [], ◌∷◌, None, drop}
-use Rattle.std.specs.Prelude.{length, map, negsuc, pos, slice_index}
+use Rattle.std.specs.Prelude.{◌≡◌, ◌==◌, ◌&&◌, ◌++◌, ◌+◌, ◌<◌, ◌≤◌, ℕ, Bool, not, is_none, List, [], ◌∷◌, None, drop, length, map, negsuc, pos, slice_index}
 use Rattle.std.specs.List.{list_all, range_with_len}
 use Rattle.std.specs.Result.{result_err}
 use Rattle.fibs_fields.specs.Board.{pieces}

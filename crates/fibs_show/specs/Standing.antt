@@ -2,12 +2,10 @@
 use Rattle.std.specs.Prelude.{◌≡◌, ℕ, ◌<◌, ◌≤◌, ◌^◌, List, [], ◌∷◌, ◌++◌, Option, Some, None, map, length, take}
 use Rattle.std.specs.Fmt.{decimal}
 use Rattle.std.specs.List.{flat_map, AllByRecursion}
-use Rattle.fibs_fields.specs.Field.{Kind, a_name, a_word, a_tail, a_flag, a_number, a_rating, a_text, FieldValue}
-use Rattle.fibs_fields.specs.Field.{kind_of, IsValue}
+use Rattle.fibs_fields.specs.Field.{Kind, a_name, a_word, a_tail, a_flag, a_number, a_rating, a_text, FieldValue, kind_of, IsValue}
 use Rattle.fibs_messages.specs.Message.{canonical_field}
 use Rattle.fibs_show.specs.declared.copied_lines.canonical.FieldKind.{FieldKind}
-use Rattle.fibs_show.specs.declared.copied_lines.canonical.FieldKind.TheVariants.{Name, Word, Tail, Flag, Number}
-use Rattle.fibs_show.specs.declared.copied_lines.canonical.FieldKind.TheVariants.{Rating, Text}
+use Rattle.fibs_show.specs.declared.copied_lines.canonical.FieldKind.TheVariants.{Name, Word, Tail, Flag, Number, Rating, Text}
 
 -- a kind of fields
 abbrev pub kind_seen : FieldKind → Kind

@@ -1,13 +1,11 @@
 //! `fibs plays`: prints the phase of a board and its plays.
-ghost use Rattle.std.specs.Prelude.{◌≡◌, ◌≤◌, ◌+◌, ◌++◌, ◌∷◌, [], ℕ, List, length, map, codes, IfOk, IfErr, IsErrOf};
-ghost use Rattle.std.specs.Prelude.{OnErr, OnOk, MatchResult};
+ghost use Rattle.std.specs.Prelude.{◌≡◌, ◌≤◌, ◌+◌, ◌++◌, ◌∷◌, [], ℕ, List, length, map, codes, IfOk, IfErr, IsErrOf, OnErr, OnOk, MatchResult};
 ghost use Rattle.std.specs.Io.KnownBytes.{Appends, Keeps};
 ghost use Rattle.fibs_fields.specs.Board.{BoardFields};
 ghost use Rattle.fibs_messages.specs.Line.{ReadingValue, board_line, IsReading};
 ghost use Rattle.fibs_position.specs.GoodBoard.{IsGood};
 ghost use Rattle.fibs_rules.specs.PlayValue.{hops_of};
-ghost use Rattle.fibs_position.specs.PositionValue.{position_of};
-ghost use Rattle.fibs_position.specs.PositionValue.{position_value};
+ghost use Rattle.fibs_position.specs.PositionValue.{position_of, position_value};
 ghost use Rattle.fibs_position.specs.Names.{position_fault_name};
 ghost use Rattle.fibs_show.specs.Plays.{listing, PositionText, PlaysText, Refusal};
 ghost use Rattle.fibs_engine.specs.Writing.{GainedFront};

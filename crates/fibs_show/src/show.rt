@@ -3,8 +3,7 @@ ghost use Rattle.std.specs.Prelude.{◌≡◌, ◌≤◌, ◌<◌, ◌*◌, ◌�
 ghost use Rattle.std.specs.Io.KnownBytes.{IsAtEnd};
 ghost use Rattle.fibs_engine.specs.Reads.{LostAtLeast, LostAtMost};
 ghost use Rattle.fibs_engine.specs.Streams.{Gains, TextGains};
-ghost use Rattle.fibs_show.specs.Show.{ShownLine, unfinished_text, WroteAll, WroteRead, WroteLines, WroteLinesOf};
-ghost use Rattle.fibs_show.specs.Show.{WroteFront};
+ghost use Rattle.fibs_show.specs.Show.{ShownLine, unfinished_text, WroteAll, WroteRead, WroteLines, WroteLinesOf, WroteFront};
 
 use crate::line::{append_line, append_number, put_line};
 use crate::page::Page;

@@ -1,6 +1,5 @@
 -- The move that `go` sends is the one that `try` showed.
-use Rattle.std.proofs.Common.{◌≡◌, ◌≤◌, ◌++◌, ℕ, List, Option, Some, true, false, length, append_assoc}
-use Rattle.std.proofs.Common.{codes, refl, sym, ap, ◌∙◌, inl, arith}
+use Rattle.std.proofs.Common.{◌≡◌, ◌≤◌, ◌++◌, ℕ, List, Option, Some, true, false, length, append_assoc, codes, refl, sym, ap, ◌∙◌, inl, arith}
 use Rattle.std.proofs.lemmas.Bool.{false≢true}
 use Rattle.fibs_fields.specs.Board.{BoardFields}
 use Rattle.fibs_position.specs.DecisionValue.{IsDecision}
@@ -16,8 +15,7 @@ use Rattle.fibs_connect.specs.declared.wish.Wish.TheVariants.{Say}
 use Rattle.fibs_advice.specs.Leads.{LeadsTo}
 use Rattle.fibs_advice.specs.Trials.{tried, tried_on}
 use Rattle.fibs_advice.specs.declared.trial.Trial.{Trial}
-use Rattle.fibs_terminal.specs.Trying.{AddsTrial, IsCommandOf, IsTriedNow, SendsTried, ShowsTrial}
-use Rattle.fibs_terminal.specs.Trying.{go_row, tried_command}
+use Rattle.fibs_terminal.specs.Trying.{AddsTrial, IsCommandOf, IsTriedNow, SendsTried, ShowsTrial, go_row, tried_command}
 
 -- what is appended in two parts is appended whole
 joined : (before mid after part row : List ℕ) → mid ≡ before ++ part → after ≡ mid ++ row

@@ -1,9 +1,7 @@
 //! Who invites the user to a match, and to which.
 ghost use Rattle.std.specs.Prelude.{◌≡◌, ◌++◌, IfOk, IfSome, OnOk};
 ghost use Rattle.fibs_fields.specs.Bytes.{name_bytes};
-ghost use Rattle.fibs_wording.specs.Invitations.{invitation_said, offer_said, said_after, said_before, said_points};
-ghost use Rattle.fibs_wording.specs.Invitations.{experience_words, invitation_words, known_words, offer_words};
-ghost use Rattle.fibs_wording.specs.Invitations.{points_words, rated_words};
+ghost use Rattle.fibs_wording.specs.Invitations.{invitation_said, offer_said, said_after, said_before, said_points, experience_words, invitation_words, known_words, offer_words, points_words, rated_words};
 
 use crate::environment::pieces::short_name;
 use fibs_fields::decimal::{append_number, read_decimal};

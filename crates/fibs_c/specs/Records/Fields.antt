@@ -1,7 +1,6 @@
 -- The fields of messages and of players, as C gets them.
 use Rattle.std.specs.Prelude.{◌≡◌, ℕ, List, []}
-use Rattle.fibs_fields.specs.Field.{FieldValue, NameField, WordField, TailField, FlagField, NumberField, RatingField}
-use Rattle.fibs_fields.specs.Field.{TextField}
+use Rattle.fibs_fields.specs.Field.{FieldValue, NameField, WordField, TailField, FlagField, NumberField, RatingField, TextField}
 use Rattle.fibs_c.specs.Records.Texts.{HandsOut, flag_of}
 use Rattle.fibs_c.specs.declared.records.fields.FieldPart.{FieldPart}
 use Rattle.fibs_c.specs.declared.records.fields.FieldRecord.{FieldRecord}

@@ -1,6 +1,5 @@
 -- Bytes that are handed out into a room of the caller, and flags.
-use Rattle.std.specs.Prelude.{◌≡◌, ℕ, ◌<◌, ◌≤◌, Bool, List, length, take, drop, not, nat_eq}
-use Rattle.std.specs.Prelude.{if◌then◌else◌}
+use Rattle.std.specs.Prelude.{◌≡◌, ℕ, ◌<◌, ◌≤◌, Bool, List, length, take, drop, not, nat_eq, if◌then◌else◌}
 
 -- the bytes are at the room's start, if they fit, and the rest of the room is as it was; else only their length is
 -- given, and nothing is written

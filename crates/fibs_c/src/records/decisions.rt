@@ -5,8 +5,7 @@ ghost use Rattle.std.specs.List.{list_all};
 ghost use Rattle.fibs_position.specs.DecisionValue.{decision_of as value_of};
 ghost use Rattle.fibs_rules.specs.Hop.{hop_of};
 ghost use Rattle.fibs_rules.specs.PlayValue.{hops_of};
-ghost use Rattle.fibs_c.specs.Records.Decisions.{hop_in, is_step, play_in, decision_in, move_in, as_move, resigning};
-ghost use Rattle.fibs_c.specs.Records.Decisions.{IsKind, IsMove, IsDecisionAs};
+ghost use Rattle.fibs_c.specs.Records.Decisions.{hop_in, is_step, play_in, decision_in, move_in, as_move, resigning, IsKind, IsMove, IsDecisionAs};
 
 use fibs_position::{Decision, Play, Stake, Step};
 

@@ -9,9 +9,7 @@ ghost use Rattle.fibs_messages.specs.Directory.Faults.{directory_fault_number};
 ghost use Rattle.fibs_fields.specs.Faults.{fault_number};
 ghost use Rattle.fibs_position.specs.Names.{disallowed_number, position_fault_number};
 ghost use Rattle.fibs_session.specs.History.Refusals.{refusal_number};
-ghost use Rattle.fibs_c.specs.Records.Statuses.{plain_refusal_status, status_name, name_in};
-ghost use Rattle.fibs_c.specs.Records.Statuses.{refusal_named, plain_fault_named, position_fault_named};
-ghost use Rattle.fibs_c.specs.Records.Statuses.{field_fault_named, directory_fault_named, own_named};
+ghost use Rattle.fibs_c.specs.Records.Statuses.{plain_refusal_status, status_name, name_in, refusal_named, plain_fault_named, position_fault_named, field_fault_named, directory_fault_named, own_named};
 
 use fibs_commands::PlainFault;
 use fibs_messages::Fault;

@@ -9,8 +9,7 @@ ghost use Rattle.fibs_session.specs.Calls.SessionOf.{ask_of};
 ghost use Rattle.fibs_session.specs.History.Asked.{asked_text};
 ghost use Rattle.fibs_json.specs.Json.{member, more_member, null, string, truth, whole};
 ghost use Rattle.fibs_json.specs.Lines.{opening};
-ghost use Rattle.fibs_cli.specs.Entries.{AskMembers, BoardMember, EntryMembers, EntryObject, LogObjects};
-ghost use Rattle.fibs_cli.specs.Entries.{answer_json, entry_connection, entry_kind};
+ghost use Rattle.fibs_cli.specs.Entries.{AskMembers, BoardMember, EntryMembers, EntryObject, LogObjects, answer_json, entry_connection, entry_kind};
 
 use crate::objects::parts::{append_end, without_end};
 use fibs_fields::boards::Board;

@@ -10,9 +10,7 @@ ghost use Rattle.fibs_engine.specs.Printing.{line_bytes};
 ghost use Rattle.fibs_lines.specs.Lines.{value_of};
 ghost use Rattle.fibs_messages.specs.Line.{reading_of};
 ghost use Rattle.fibs_json.specs.Lines.{HeardObject};
-ghost use Rattle.fibs_cli.specs.Said.{SaidObjects, own_object, own_objects, player_members, plain_kind};
-ghost use Rattle.fibs_cli.specs.Said.{reason_members};
-ghost use Rattle.fibs_cli.specs.Said.{said_kind, said_members, waited_members, command_member};
+ghost use Rattle.fibs_cli.specs.Said.{SaidObjects, own_object, own_objects, player_members, plain_kind, reason_members, said_kind, said_members, waited_members, command_member};
 
 use crate::objects::parts::{append_end, without_end};
 use arrayvec::ArrayVec;

@@ -1,6 +1,5 @@
 -- The players that are reported, one more at each step.
-use Rattle.std.proofs.Common.{◌≡◌, ℕ, zero, suc, ◌+◌, List, [], ◌∷◌, ◌++◌, take, slice_get, Some}
-use Rattle.std.proofs.Common.{ap, ◌∙◌, add-one}
+use Rattle.std.proofs.Common.{◌≡◌, ℕ, zero, suc, ◌+◌, List, [], ◌∷◌, ◌++◌, take, slice_get, Some, ap, ◌∙◌, add-one}
 use Rattle.fibs_messages.specs.Message.{MessageValue}
 use Rattle.fibs_connect.specs.Told.{SaidValue, player_said}
 use Rattle.fibs_connect.specs.Converse.Players.{players_told}

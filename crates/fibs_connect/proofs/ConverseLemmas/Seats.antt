@@ -1,6 +1,5 @@
 -- A seat at the server: the client is online exactly if there is a connection.
-use Rattle.std.proofs.Common.{◌≡◌, ℕ, suc, true, false, not, cond, nat_eq, List, [], ◌∷◌, Option, None, Some}
-use Rattle.std.proofs.Common.{inl, refl, sym, ap, subst, ◌∙◌, arith}
+use Rattle.std.proofs.Common.{◌≡◌, ℕ, suc, true, false, not, cond, nat_eq, List, [], ◌∷◌, Option, None, Some, inl, refl, sym, ap, subst, ◌∙◌, arith}
 use Rattle.fibs_messages.specs.Message.{MessageValue}
 use Rattle.fibs_connect.specs.Told.{SaidValue, Joins, opened_said}
 use Rattle.fibs_session.specs.declared.taken.Outstanding.{Outstanding}

@@ -1,7 +1,5 @@
 -- What pieces of the stream call for.
-use Rattle.std.proofs.Common.{◌≡◌, ◌<◌, ◌≤◌, ◌+◌, ◌-◌, ℕ, Bool, true, false, not, if◌then◌else◌, nat_eq, List, []}
-use Rattle.std.proofs.Common.{◌∷◌, ◌++◌, length, take, drop, Option, None, Some, refl, sym, ap, ◌∙◌}
-use Rattle.std.proofs.Common.{append_assoc, append-nil, take-append-drop, arith, length-append, length-take}
+use Rattle.std.proofs.Common.{◌≡◌, ◌<◌, ◌≤◌, ◌+◌, ◌-◌, ℕ, Bool, true, false, not, if◌then◌else◌, nat_eq, List, [], ◌∷◌, ◌++◌, length, take, drop, Option, None, Some, refl, sym, ap, ◌∙◌, append_assoc, append-nil, take-append-drop, arith, length-append, length-take}
 use Rattle.std.proofs.Math.Seq.{take-append-add, take-add, drop-append_seam, drop-length}
 use Rattle.std.proofs.lemmas.List.{nil_from_length}
 use Rattle.fibs_lines.specs.Lines.{ReadLine, lines_of}
@@ -9,8 +7,7 @@ use Rattle.fibs_lines.specs.StreamLaws.{LinesOnlyGrow}
 use Rattle.fibs_session.specs.History.Log.{Entry}
 use Rattle.fibs_session.specs.History.Words.{open_now}
 use Rattle.fibs_session.specs.History.Hearing.{Heard, heard, nothing_heard, line_reading}
-use Rattle.fibs_session.specs.History.Machine.{Talk, Outcome, Piece, step, stays, is_online, hears, hears_all}
-use Rattle.fibs_session.specs.History.Machine.{heard_by, with_bytes, gained}
+use Rattle.fibs_session.specs.History.Machine.{Talk, Outcome, Piece, step, stays, is_online, hears, hears_all, heard_by, with_bytes, gained}
 use Rattle.fibs_session.specs.Calls.Standing.{ClientValue, StandsAfter}
 use Rattle.fibs_session.specs.Calls.Feeding.{FeedAnswers, Gains, in_list}
 use Rattle.fibs_session.specs.Calls.SessionOf.{TakenValue}

@@ -1,6 +1,5 @@
 -- The lines that a turn prints, without those of the directory.
-use Rattle.std.proofs.Common.{◌≡◌, ℕ, Bool, true, false, cond, if◌then◌else◌, List, [], ◌∷◌, ◌++◌, map, codes, Option}
-use Rattle.std.proofs.Common.{None, Some, refl, sym, ap, subst, ◌∙◌, append_assoc, append-nil}
+use Rattle.std.proofs.Common.{◌≡◌, ℕ, Bool, true, false, cond, if◌then◌else◌, List, [], ◌∷◌, ◌++◌, map, codes, Option, None, Some, refl, sym, ap, subst, ◌∙◌, append_assoc, append-nil}
 use Rattle.std.proofs.lemmas.List.{map-append}
 use Rattle.std.proofs.lemmas.List.Concat.{flat_map-append}
 use Rattle.std.specs.List.{flat_map}
@@ -17,29 +16,21 @@ use Rattle.fibs_session.specs.declared.histories.refusal.PlainRefusal.TheVariant
 use Rattle.fibs_session.specs.History.Log.{Entry}
 use Rattle.fibs_session.specs.History.Words.{Ask, open_now}
 use Rattle.fibs_session.specs.History.Hearing.{Heard, heard, line_reading}
-use Rattle.fibs_session.specs.History.Machine.{Talk, Click, PlainInput, step, answer_now, plain_refusal}
-use Rattle.fibs_session.specs.History.Machine.{is_online, gained, order_refusal, withdraw_refusal}
+use Rattle.fibs_session.specs.History.Machine.{Talk, Click, PlainInput, step, answer_now, plain_refusal, is_online, gained, order_refusal, withdraw_refusal}
 use Rattle.fibs_messages.specs.declared.directory.fault.DirectoryFault.{DirectoryFault}
 use Rattle.fibs_connect.specs.declared.turns.Ending.{Ending}
 use Rattle.fibs_connect.specs.declared.turns.Ending.TheVariants.{Quiet, Lost}
 use Rattle.fibs_engine.specs.Escape.{escaped}
 use Rattle.fibs_engine.specs.Printing.{line_bytes}
 use Rattle.fibs_position.specs.Phases.{phase_of}
-use Rattle.fibs_connect.specs.Told.{SaidValue, phase_said, sent_said, ordered_said}
-use Rattle.fibs_connect.specs.Told.{withdrawn_said, refused_said, not_sent_said}
+use Rattle.fibs_connect.specs.Told.{SaidValue, phase_said, sent_said, ordered_said, withdrawn_said, refused_said, not_sent_said}
 use Rattle.fibs_connect.specs.Account.{lines_of, printed_of, account_of}
 use Rattle.fibs_session.specs.Calls.SessionOf.{ask_of}
 use Rattle.fibs_connect.specs.Turns.Acts.{Act, answer_act}
-use Rattle.fibs_connect.specs.Lines.{text_of_lines, lost_line}
-use Rattle.fibs_connect.specs.Turns.Lines.{phase_told, confirmed_told, rolled_told, line_act, line_acts}
-use Rattle.fibs_connect.specs.Lines.{said_text, heard_text}
-use Rattle.fibs_connect.specs.Turns.Lines.{piece_acts}
-use Rattle.fibs_session.specs.Typing.{TypedValue, typed_decision, typed_plain, typed_order, typed_withdrawal}
-use Rattle.fibs_connect.specs.Turns.Typing.{order_told, typed_act, typed_acts}
-use Rattle.fibs_session.specs.Typing.{typed_none}
-use Rattle.fibs_connect.specs.Lines.{plain_line}
-use Rattle.fibs_connect.specs.Turns.Typing.{talk_after}
-use Rattle.fibs_session.specs.Typing.{typed_now}
+use Rattle.fibs_connect.specs.Lines.{text_of_lines, lost_line, said_text, heard_text, plain_line}
+use Rattle.fibs_connect.specs.Turns.Lines.{phase_told, confirmed_told, rolled_told, line_act, line_acts, piece_acts}
+use Rattle.fibs_session.specs.Typing.{TypedValue, typed_decision, typed_plain, typed_order, typed_withdrawal, typed_none, typed_now}
+use Rattle.fibs_connect.specs.Turns.Typing.{order_told, typed_act, typed_acts, talk_after}
 use Rattle.fibs_connect.specs.Turns.Script.{Done, directory_told, done_told, acts_of, tells_of}
 use Rattle.fibs_connect.specs.Turns.Turn.{end_acts}
 use Rattle.fibs_connect.specs.Turns.PrintLaw.{is_directory_line, without_directory, lines_of_acts, TurnsPrintTheirActs}

@@ -1,6 +1,5 @@
 -- What was done of a script, act by act.
-use Rattle.std.proofs.Common.{◌≡◌, ℕ, List, [], ◌∷◌, ◌++◌, Option, None, Some, refl, sym, ap, subst, ◌∙◌}
-use Rattle.std.proofs.Common.{append_assoc, append-nil}
+use Rattle.std.proofs.Common.{◌≡◌, ℕ, List, [], ◌∷◌, ◌++◌, Option, None, Some, refl, sym, ap, subst, ◌∙◌, append_assoc, append-nil}
 use Rattle.std.proofs.lemmas.List.{map-append}
 use Rattle.std.proofs.lemmas.List.Concat.{flat_map-append}
 use Rattle.std.specs.Io.KnownBytes.{Appends, Keeps}
@@ -8,13 +7,10 @@ use Rattle.std.proofs.KnownBytes.{Appends-nil, Appends-trans, Appends-kept}
 use Rattle.fibs_messages.specs.Message.{MessageValue}
 use Rattle.fibs_messages.specs.Directory.{IsDirectory}
 use Rattle.fibs_messages.specs.declared.directory.fault.DirectoryFault.{DirectoryFault}
-use Rattle.fibs_engine.specs.Writing.{Wrote}
-use Rattle.fibs_engine.specs.Writing.{Progress, Whole, Broken}
+use Rattle.fibs_engine.specs.Writing.{Wrote, Progress, Whole, Broken}
 use Rattle.fibs_connect.specs.Told.{SaidValue, Joins}
 use Rattle.fibs_connect.specs.Turns.Acts.{Act}
-use Rattle.fibs_connect.specs.Turns.Script.{Outside, Done, directory_told, done_told, noted_unless}
-use Rattle.fibs_connect.specs.Turns.Script.{OnlyWhoRefused, AllOnlyWhoRefused, Silent, untold}
-use Rattle.fibs_connect.specs.Turns.Script.{acts_of, writes_of, tells_of, notes_of, Notes, Did}
+use Rattle.fibs_connect.specs.Turns.Script.{Outside, Done, directory_told, done_told, noted_unless, OnlyWhoRefused, AllOnlyWhoRefused, Silent, untold, acts_of, writes_of, tells_of, notes_of, Notes, Did}
 
 -- the directory stays
 pub notes_nothing : (d : Option (List MessageValue)) → Notes d d []

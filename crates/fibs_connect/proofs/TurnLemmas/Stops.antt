@@ -1,6 +1,5 @@
 -- If the front end fails, the turn is one of which nobody is told.
-use Rattle.std.proofs.Common.{◌≡◌, ℕ, true, List, [], ◌∷◌, ◌++◌, Option, None, Some, Result, Ok, Err, inl, inr}
-use Rattle.std.proofs.Common.{OnErr, IfOk, refl, subst, ◌∙◌, append_assoc}
+use Rattle.std.proofs.Common.{◌≡◌, ℕ, true, List, [], ◌∷◌, ◌++◌, Option, None, Some, Result, Ok, Err, inl, inr, OnErr, IfOk, refl, subst, ◌∙◌, append_assoc}
 use Rattle.std.specs.Prelude.{option_map, IsErrAnd}
 use Rattle.std.specs.Io.KnownBytes.{Consumes, Keeps, prepend_known}
 use Rattle.std.proofs.KnownBytes.{Appends-nil, Consumes-nil}
@@ -25,8 +24,7 @@ use Rattle.fibs_connect.specs.Turns.Typing.{typed_step, typed_act}
 use Rattle.fibs_session.specs.Typing.{typed_now}
 use Rattle.fibs_connect.proofs.TurnLemmas.Scripts.{silent_joins, hushed, did_hushed, did_untold}
 use Rattle.fibs_connect.proofs.TurnLemmas.Typed.{typed_stays}
-use Rattle.fibs_connect.proofs.TurnLemmas.Turns.{Gone, broke_portion, talked_all, turned}
-use Rattle.fibs_connect.proofs.TurnLemmas.Turns.{turned_whole, turned_typed}
+use Rattle.fibs_connect.proofs.TurnLemmas.Turns.{Gone, broke_portion, talked_all, turned, turned_whole, turned_typed}
 
 -- what holds in any case holds at a fault
 pub on_any_err : {T E P : Type 0} (r : Result T E) → P → OnErr r P

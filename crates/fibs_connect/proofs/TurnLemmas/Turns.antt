@@ -1,14 +1,11 @@
 -- What was heard and done, portion by portion, makes up a turn.
-use Rattle.std.proofs.Common.{◌≡◌, ◌<◌, ℕ, Bool, true, false, not, if◌then◌else◌, nat_eq, List, [], ◌∷◌, ◌++◌}
-use Rattle.std.proofs.Common.{length, Option, None, Some, refl, sym, ap, subst, ◌∙◌, append_assoc}
-use Rattle.std.proofs.Common.{append-nil, arith, length-append}
+use Rattle.std.proofs.Common.{◌≡◌, ◌<◌, ℕ, Bool, true, false, not, if◌then◌else◌, nat_eq, List, [], ◌∷◌, ◌++◌, length, Option, None, Some, refl, sym, ap, subst, ◌∙◌, append_assoc, append-nil, arith, length-append}
 use Rattle.std.specs.Io.KnownBytes.{Consumes, Keeps}
 use Rattle.std.proofs.KnownBytes.{Consumes-nil, Consumes-trans, Consumes-kept}
 use Rattle.fibs_lines.specs.StreamLaws.{LinesOnlyGrow}
 use Rattle.fibs_session.specs.History.Log.{Lost as LostEntry}
 use Rattle.fibs_session.specs.History.Words.{open_now}
-use Rattle.fibs_session.specs.History.Machine.{Talk, Piece, Lose, step, stays, does, is_online}
-use Rattle.fibs_session.specs.History.Machine.{unconfirmed_now}
+use Rattle.fibs_session.specs.History.Machine.{Talk, Piece, Lose, step, stays, does, is_online, unconfirmed_now}
 use Rattle.fibs_session.specs.History.MachineLaws.{PiecesJoin, EmptyPieceIsNothing}
 use Rattle.fibs_session.specs.Calls.Standing.{ClientValue, StandsAfter}
 use Rattle.fibs_connect.specs.declared.turns.Ending.{Ending}
@@ -18,13 +15,11 @@ use Rattle.fibs_connect.specs.Told.{SaidValue, Joins}
 use Rattle.fibs_connect.specs.Turns.Acts.{Act}
 use Rattle.fibs_connect.specs.Turns.Lines.{piece_acts}
 use Rattle.fibs_connect.specs.Turns.Script.{Outside, Did}
-use Rattle.fibs_connect.specs.Turns.Turn.{EndsALine, Extent, IntakeExtent, Talked, Ended, TurnedBy, FitsStream}
-use Rattle.fibs_connect.specs.Turns.Turn.{still_given}
+use Rattle.fibs_connect.specs.Turns.Turn.{EndsALine, Extent, IntakeExtent, Talked, Ended, TurnedBy, FitsStream, still_given}
 use Rattle.fibs_connect.specs.Turns.Typing.{talk_after, typed_step, typed_act}
 use Rattle.fibs_session.specs.Typing.{typed_now}
 use Rattle.fibs_connect.proofs.TurnLemmas.Scripts.{did_nothing, did_joined, did_kept, did_same}
-use Rattle.fibs_connect.proofs.TurnLemmas.Hearing.{piece_online, piece_stream, no_acts, acts_join}
-use Rattle.fibs_connect.proofs.TurnLemmas.Hearing.{ends_joined}
+use Rattle.fibs_connect.proofs.TurnLemmas.Hearing.{piece_online, piece_stream, no_acts, acts_join, ends_joined}
 use Rattle.fibs_connect.proofs.TurnLemmas.Typed.{typed_stays}
 use Rattle.fibs_session.proofs.History.Past.{open_append}
 

@@ -1,6 +1,5 @@
 -- What a typed line leaves as it is.
-use Rattle.std.proofs.Common.{◌≡◌, ℕ, not, nat_eq, List, [], ◌∷◌, Option}
-use Rattle.std.proofs.Common.{None, Some, refl, sym, ap, subst, ◌∙◌, append-nil}
+use Rattle.std.proofs.Common.{◌≡◌, ℕ, not, nat_eq, List, [], ◌∷◌, Option, None, Some, refl, sym, ap, subst, ◌∙◌, append-nil}
 use Rattle.std.specs.Io.KnownBytes.{Appends}
 use Rattle.fibs_fields.specs.Board.{BoardFields}
 use Rattle.fibs_position.specs.DecisionValue.{DecisionValue}
@@ -10,18 +9,14 @@ use Rattle.fibs_session.specs.declared.histories.refusal.Refusal.{Refusal}
 use Rattle.fibs_session.specs.declared.histories.refusal.PlainRefusal.{PlainRefusal}
 use Rattle.fibs_session.specs.History.Log.{Entry, Clicked, Sent, Ordered, Withdrawn}
 use Rattle.fibs_session.specs.History.Words.{last, open_from, open_now, shown}
-use Rattle.fibs_session.specs.History.Machine.{Talk, is_online, answer_now}
-use Rattle.fibs_session.specs.History.Machine.{plain_refusal, on_wire, clicks_by, decides_on, sends_plain, notes_if}
-use Rattle.fibs_session.specs.History.Machine.{order_refusal, withdraw_refusal}
+use Rattle.fibs_session.specs.History.Machine.{Talk, is_online, answer_now, plain_refusal, on_wire, clicks_by, decides_on, sends_plain, notes_if, order_refusal, withdraw_refusal}
 use Rattle.fibs_messages.specs.Message.{MessageValue}
-use Rattle.fibs_engine.specs.Writing.{Wrote}
-use Rattle.fibs_engine.specs.Writing.{Whole, Broken}
+use Rattle.fibs_engine.specs.Writing.{Wrote, Whole, Broken}
 use Rattle.fibs_connect.specs.Told.{SaidValue, Joins, sent_said}
 use Rattle.fibs_connect.specs.Turns.Acts.{Act, answer_act}
 use Rattle.fibs_connect.specs.Turns.Script.{Did, Notes, outside}
-use Rattle.fibs_session.specs.Typing.{TypedValue, typed_decision, typed_plain, typed_order, typed_withdrawal}
+use Rattle.fibs_session.specs.Typing.{TypedValue, typed_decision, typed_plain, typed_order, typed_withdrawal, typed_none}
 use Rattle.fibs_connect.specs.Turns.Typing.{typed_step, typed_act}
-use Rattle.fibs_session.specs.Typing.{typed_none}
 use Rattle.fibs_session.proofs.History.Past.{open_append}
 use Rattle.fibs_connect.proofs.TurnLemmas.Scripts.{did_alone, did_part, notes_nothing}
 

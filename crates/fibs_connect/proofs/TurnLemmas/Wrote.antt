@@ -1,10 +1,8 @@
 -- What was written, piece by piece.
-use Rattle.std.proofs.Common.{◌≡◌, ℕ, List, [], ◌∷◌, ◌++◌, Option, sym, ap, subst, ◌∙◌, append_assoc}
-use Rattle.std.proofs.Common.{append-nil, take}
+use Rattle.std.proofs.Common.{◌≡◌, ℕ, List, [], ◌∷◌, ◌++◌, Option, sym, ap, subst, ◌∙◌, append_assoc, append-nil, take}
 use Rattle.std.specs.Io.KnownBytes.{Appends, Consumes}
 use Rattle.std.proofs.KnownBytes.{Appends-trans, Consumes-trans}
-use Rattle.fibs_engine.specs.Writing.{Wrote}
-use Rattle.fibs_engine.specs.Writing.{Progress, Whole, Broken}
+use Rattle.fibs_engine.specs.Writing.{Wrote, Progress, Whole, Broken}
 
 -- after what was written whole
 pub wrote_more : (p : Progress) (a b c : Option (List ℕ)) (xs ys : List ℕ) → Appends a b xs → Wrote p b c ys

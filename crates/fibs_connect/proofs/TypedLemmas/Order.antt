@@ -1,13 +1,11 @@
 -- Lines that come one after another are the lines of what is typed.
-use Rattle.std.proofs.Common.{◌≡◌, ℕ, suc, ◌<◌, ◌==◌, Bool, true, false, cond, List, [], ◌∷◌, ◌++◌, length, map}
-use Rattle.std.proofs.Common.{Option, Some, None, refl, ap, sym, ◌∙◌, arith}
+use Rattle.std.proofs.Common.{◌≡◌, ℕ, suc, ◌<◌, ◌==◌, Bool, true, false, cond, List, [], ◌∷◌, ◌++◌, length, map, Option, Some, None, refl, ap, sym, ◌∙◌, arith}
 use Rattle.std.proofs.lemmas.Bool.{ne_eqb}
 use Rattle.std.specs.List.{slice_split}
 use Rattle.std.specs.Str.Lines.{lines, lines_of_parts, strip_carriage_return}
 use Rattle.fibs_fields.specs.Split.{before, after}
 use Rattle.fibs_connect.specs.TypedLines.{typed_line, after_typed_line, kept_typed, without_end, rest_or_nothing}
-use Rattle.fibs_connect.specs.Weaving.{NextValue, line_typed, server_heard, all_typed, Comes}
-use Rattle.fibs_connect.specs.Weaving.{lines_among, kept_lines, LinesComeInOrder}
+use Rattle.fibs_connect.specs.Weaving.{NextValue, line_typed, server_heard, all_typed, Comes, lines_among, kept_lines, LinesComeInOrder}
 
 -- the parts of a text between its line ends
 abbrev parts : List ℕ → List (List ℕ)

@@ -1,7 +1,5 @@
 -- A typed line is read part by part.
-use Rattle.std.proofs.Common.{◌≡◌, ℕ, ◌<◌, ◌-◌, Bool, true, false, not, nat_lt, List, [], ◌++◌, length}
-use Rattle.std.proofs.Common.{length-take, take, Option, Some, None, refl, ap, sym, ◌∙◌, arith, append_assoc}
-use Rattle.std.proofs.Common.{append-nil, length-append}
+use Rattle.std.proofs.Common.{◌≡◌, ℕ, ◌<◌, ◌-◌, Bool, true, false, not, nat_lt, List, [], ◌++◌, length, length-take, take, Option, Some, None, refl, ap, sym, ◌∙◌, arith, append_assoc, append-nil, length-append}
 use Rattle.std.proofs.lemmas.Bool.Decides.{nat_tests}
 use Rattle.std.proofs.lemmas.List.{take-take}
 use Rattle.std.specs.Prelude.{◌==◌, is_some}
@@ -10,8 +8,7 @@ use Rattle.std.specs.Str.Lines.{strip_carriage_return}
 use Rattle.fibs_fields.specs.Split.{before, after}
 use Rattle.fibs_connect.specs.TypedLines.{kept_typed, without_end, rest_or_nothing}
 use Rattle.fibs_connect.specs.TypedReads.{TakesLine}
-use Rattle.fibs_connect.proofs.TypedLemmas.Cuts.{before-all, before-more, after-more, after-front, before-front}
-use Rattle.fibs_connect.proofs.TypedLemmas.Cuts.{cut-length}
+use Rattle.fibs_connect.proofs.TypedLemmas.Cuts.{before-all, before-more, after-more, after-front, before-front, cut-length}
 use Rattle.fibs_connect.proofs.TypedLemmas.Kept.{kept-more, kept-line}
 
 -- of what was to come a part without a line end was taken, and kept as far as there is room

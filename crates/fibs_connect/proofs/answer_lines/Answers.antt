@@ -1,7 +1,6 @@
 use Rattle.fibs_connect.proofs.TypedLemmas.Spent.{spends_nothing, spends_more}
 use Rattle.std.proofs.Common.{refl}
-use Rattle.fibs_connect.proofs.answer_lines.Goals.{in-Heard+in_ok-take_turn-in-Heard}
-use Rattle.fibs_connect.proofs.answer_lines.Goals.{in-Typed+in_ok-wish-in-Typed+in_ok-answer-in-Typed+in_default}
+use Rattle.fibs_connect.proofs.answer_lines.Goals.{in-Heard+in_ok-take_turn-in-Heard, in-Typed+in_ok-wish-in-Typed+in_ok-answer-in-Typed+in_default}
 use Rattle.fibs_connect.proofs.answer_lines.Goals as goal
 
 pub loop-init : goal.loop-init

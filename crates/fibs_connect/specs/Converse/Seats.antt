@@ -13,8 +13,7 @@ use Rattle.fibs_engine.specs.Writing.{Wrote, Broken}
 use Rattle.fibs_connect.specs.Turns.Script.{outside}
 use Rattle.fibs_connect.specs.Turns.Turn.{TurnedBy, Ended, still_given}
 use Rattle.fibs_connect.specs.Converse.Players.{players_told}
-use Rattle.fibs_connect.specs.Wishes.{WishValue, connects, lists_players, ends, is_too_long, takes_turn, passes}
-use Rattle.fibs_connect.specs.Wishes.{is_answered, typed_limit}
+use Rattle.fibs_connect.specs.Wishes.{WishValue, connects, lists_players, ends, is_too_long, takes_turn, passes, is_answered, typed_limit}
 use Rattle.fibs_connect.specs.declared.seat.Going.{Going}
 use Rattle.fibs_connect.specs.declared.seat.Going.TheVariants.{On, Away}
 

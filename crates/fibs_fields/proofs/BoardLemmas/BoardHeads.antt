@@ -1,6 +1,5 @@
 -- The fields of a line are read one after another.
-use Rattle.std.proofs.Common.{◌≡◌, ◌∙◌, ◌+◌, ◌++◌, ℕ, List, [], ◌∷◌, Some, Ok}
-use Rattle.std.proofs.Common.{Err, append_assoc, codes, map, refl, sym, ap}
+use Rattle.std.proofs.Common.{◌≡◌, ◌∙◌, ◌+◌, ◌++◌, ℕ, List, [], ◌∷◌, Some, Ok, Err, append_assoc, codes, map, refl, sym, ap}
 use Rattle.fibs_fields.specs.Board.{field_values, kinds, pieces}
 use Rattle.fibs_fields.specs.BoardReading.{first_fault, pieces_left, HasRead}
 use Rattle.fibs_fields.specs.Field.{Kind, NameField, a_name, a_number_of, the_word}

@@ -1,6 +1,5 @@
 -- A line says a board exactly if its pieces are the board's fields, and has then no wrong field.
-use Rattle.std.proofs.Common.{◌≡◌, ℕ, ◌<◌, ◌+◌, ◌^◌, true, List, [], ◌∷◌, ◌++◌, Some, None, Result, Ok, Err, map}
-use Rattle.std.proofs.Common.{replicate, codes, append_assoc, arith, refl, sym, ap, ◌∙◌}
+use Rattle.std.proofs.Common.{◌≡◌, ℕ, ◌<◌, ◌+◌, ◌^◌, true, List, [], ◌∷◌, ◌++◌, Some, None, Result, Ok, Err, map, replicate, codes, append_assoc, arith, refl, sym, ap, ◌∙◌}
 use Rattle.std.specs.Prelude.{ℤ, FitsSigned, IfOk, IfErr}
 use Rattle.std.specs.Fmt.{signed_decimal}
 use Rattle.std.specs.Int.{w32}
@@ -9,8 +8,7 @@ use Rattle.std.proofs.lemmas.Fmt.{signed_decimal_injective}
 use Rattle.std.proofs.lemmas.List.Elements.{All-head, All-tail}
 use Rattle.std.proofs.lemmas.List.{append-nil}
 use Rattle.std.proofs.lemmas.List.Splits.{join_with_byte-slice_split}
-use Rattle.fibs_fields.specs.Board.{BoardFields, IsBoard, BoardText, Fit, field_values, kinds, texts, spelling}
-use Rattle.fibs_fields.specs.Board.{pieces, Wrong}
+use Rattle.fibs_fields.specs.Board.{BoardFields, IsBoard, BoardText, Fit, field_values, kinds, texts, spelling, pieces, Wrong}
 use Rattle.fibs_fields.specs.Spaces.{without_spaces}
 use Rattle.fibs_fields.specs.Field.{a_number_of}
 use Rattle.fibs_fields.specs.Numerals.{after_colons}
@@ -19,8 +17,7 @@ use Rattle.fibs_fields.specs.DecimalReading.{IsNarrow}
 use Rattle.fibs_fields.specs.BoardReading.{first_fault}
 use Rattle.fibs_fields.specs.declared.values.Values.{Values}
 use Rattle.fibs_fields.specs.declared.fault.FieldFault.{FieldFault}
-use Rattle.fibs_fields.proofs.BoardLemmas.Pieces.{IsFieldByte, name_bytes, number_bytes, pieces-join, join_no_space}
-use Rattle.fibs_fields.proofs.BoardLemmas.Pieces.{without_spaces-append}
+use Rattle.fibs_fields.proofs.BoardLemmas.Pieces.{IsFieldByte, name_bytes, number_bytes, pieces-join, join_no_space, without_spaces-append}
 use Rattle.fibs_fields.proofs.NumberLemmas.CappedNumbers.{allowed_narrow}
 use Rattle.fibs_fields.proofs.NumberLemmas.Spelled.{number_in-written}
 use Rattle.fibs_fields.proofs.BoardLemmas.OneNumberMore.{join_is_after}

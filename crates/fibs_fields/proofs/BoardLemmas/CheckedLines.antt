@@ -9,8 +9,7 @@ use Rattle.fibs_fields.specs.Spaces.{without_spaces}
 use Rattle.fibs_fields.specs.declared.fault.FieldFault.{FieldFault}
 use Rattle.fibs_fields.proofs.FieldLemmas.Options.{option_same, some_none}
 use Rattle.fibs_fields.proofs.FieldLemmas.Spaces.{spaces_after}
-use Rattle.fibs_fields.proofs.BoardLemmas.BoardTexts.{board_from_pieces, pieces_of_board, texts_right}
-use Rattle.fibs_fields.proofs.BoardLemmas.BoardTexts.{without_spaces-spelling, wrong_from_first, first_from_wrong}
+use Rattle.fibs_fields.proofs.BoardLemmas.BoardTexts.{board_from_pieces, pieces_of_board, texts_right, without_spaces-spelling, wrong_from_first, first_from_wrong}
 use Rattle.fibs_fields.proofs.BoardLemmas.EachLine.{fields_from}
 use Rattle.fibs_fields.proofs.BoardLemmas.NextFields.{end_right, end_wrong}
 

@@ -1,7 +1,5 @@
 -- Each line says one board, or has one first wrong field.
-use Rattle.std.proofs.Common.{◌≡◌, ℕ, ◌+◌, ◌⊎◌, inl, inr, Bool, true, false, List, []}
-use Rattle.std.proofs.Common.{◌∷◌, Option, Some, None, Result, Ok, Err, map, codes}
-use Rattle.std.proofs.Common.{refl, sym, ap, ◌∙◌}
+use Rattle.std.proofs.Common.{◌≡◌, ℕ, ◌+◌, ◌⊎◌, inl, inr, Bool, true, false, List, [], ◌∷◌, Option, Some, None, Result, Ok, Err, map, codes, refl, sym, ap, ◌∙◌}
 use Rattle.std.specs.Prelude.{ℤ}
 use Rattle.std.specs.Fmt.{signed_decimal}
 use Rattle.std.specs.List.{All}
@@ -20,8 +18,7 @@ use Rattle.fibs_fields.specs.declared.fault.FieldFault.{FieldFault}
 use Rattle.fibs_fields.specs.declared.fault.Fault.{Fault}
 use Rattle.fibs_fields.specs.declared.fault.Fault.TheVariants.{BadName}
 use Rattle.fibs_fields.specs.declared.values.Values.{Values}
-use Rattle.fibs_fields.proofs.BoardLemmas.BoardTexts.{board_from_pieces, wrong_from_first, texts_same, pieces_of_board}
-use Rattle.fibs_fields.proofs.BoardLemmas.BoardTexts.{texts_right, first_from_wrong}
+use Rattle.fibs_fields.proofs.BoardLemmas.BoardTexts.{board_from_pieces, wrong_from_first, texts_same, pieces_of_board, texts_right, first_from_wrong}
 use Rattle.fibs_fields.proofs.FieldLemmas.Options.{option_same, some_none}
 use Rattle.fibs_fields.proofs.FieldLemmas.Spaces.{spaces_after}
 use Rattle.fibs_fields.proofs.NumberLemmas.Spelled.{number_in_spelled}

@@ -1,6 +1,5 @@
 -- Which numbers the fields of a group of the table may have.
-use Rattle.std.proofs.Common.{◌≡◌, ℕ, ◌<◌, ◌≤◌, ◌+◌, ◌-◌, true, false, Some, arith, refl, nat_le, ⊎_elim, inl}
-use Rattle.std.proofs.Common.{inr, ◌⊎◌, zero, suc, List, [], ◌∷◌, ◌++◌, replicate, drop, sym, ap, ◌∙◌}
+use Rattle.std.proofs.Common.{◌≡◌, ℕ, ◌<◌, ◌≤◌, ◌+◌, ◌-◌, true, false, Some, arith, refl, nat_le, ⊎_elim, inl, inr, ◌⊎◌, zero, suc, List, [], ◌∷◌, ◌++◌, replicate, drop, sym, ap, ◌∙◌}
 use Rattle.std.specs.Prelude.{ℤ, ◌≤ℤ◌, int_le, slice_get, ◌↔◌}
 use Rattle.std.specs.Ordering.{int_eq}
 use Rattle.std.proofs.lemmas.Int.{ints}

@@ -1,6 +1,5 @@
 -- How long numbers are that fit their fields.
-use Rattle.std.proofs.Common.{◌≡◌, ℕ, zero, suc, ◌<◌, ◌≤◌, ◌+◌, ◌^◌, max, true, false, cond, ⊎_elim, List, [], ◌∷◌}
-use Rattle.std.proofs.Common.{length, get_or, take, arith, refl, sym, ap, ◌∙◌, nat_lt, add-one, length-append}
+use Rattle.std.proofs.Common.{◌≡◌, ℕ, zero, suc, ◌<◌, ◌≤◌, ◌+◌, ◌^◌, max, true, false, cond, ⊎_elim, List, [], ◌∷◌, length, get_or, take, arith, refl, sym, ap, ◌∙◌, nat_lt, add-one, length-append}
 use Rattle.std.specs.Prelude.{ℤ, pos, negsuc, int_le, FitsSigned}
 use Rattle.std.specs.Fmt.{decimal, signed_decimal}
 use Rattle.std.specs.List.{All}

@@ -1,6 +1,5 @@
 -- The next field of a board line, as it is read: what it says of the pieces of the line.
-use Rattle.std.proofs.Common.{◌≡◌, ◌∙◌, ℕ, ◌+◌, Bool, true, false, List, [], ◌∷◌, Option, Some, None, Result, Ok, Err}
-use Rattle.std.proofs.Common.{codes, drop, map, refl, sym, ap, subst, inl, inr}
+use Rattle.std.proofs.Common.{◌≡◌, ◌∙◌, ℕ, ◌+◌, Bool, true, false, List, [], ◌∷◌, Option, Some, None, Result, Ok, Err, codes, drop, map, refl, sym, ap, subst, inl, inr}
 use Rattle.std.specs.Prelude.{ℤ, IfOk, IfErr, slice_get}
 use Rattle.std.specs.Result.{result_err}
 use Rattle.std.specs.Str.{bytes_eq}
@@ -11,10 +10,8 @@ use Rattle.fibs_fields.specs.Board.{allowed_by, field_values, pieces}
 use Rattle.fibs_fields.specs.BoardReading.{first_fault, fault_or, pieces_of, pieces_left, NumberRead}
 use Rattle.fibs_fields.specs.Decimal.{number_in}
 use Rattle.fibs_fields.specs.DecimalReading.{IsNarrow}
-use Rattle.fibs_fields.specs.Field.{Kind, the_word, a_name, a_number_of, may_be_absent, fault_in, FieldValue}
-use Rattle.fibs_fields.specs.Field.{NameField}
-use Rattle.fibs_fields.specs.FieldReading.{Left, left, numbered, next_at, field_at, text_at, end_at, value_in, good}
-use Rattle.fibs_fields.specs.FieldReading.{this_word, Gives, ◌>>=◌}
+use Rattle.fibs_fields.specs.Field.{Kind, the_word, a_name, a_number_of, may_be_absent, fault_in, FieldValue, NameField}
+use Rattle.fibs_fields.specs.FieldReading.{Left, left, numbered, next_at, field_at, text_at, end_at, value_in, good, this_word, Gives, ◌>>=◌}
 use Rattle.fibs_fields.specs.Name.{is_name}
 use Rattle.fibs_fields.specs.Split.{before, after}
 use Rattle.fibs_fields.specs.declared.fault.FieldFault.{FieldFault}

@@ -1,14 +1,12 @@
 -- Numbers that are kept in a byte each, among others.
-use Rattle.std.proofs.Common.{◌≡◌, ℕ, ◌<◌, ◌≤◌, ◌+◌, ◌-◌, true, List, [], ◌∷◌, ◌++◌, length, take, drop, get_or, arith}
-use Rattle.std.proofs.Common.{sym, ap, ◌∙◌, subst, nat_le, false, zero, suc, ⊎_elim, take_all, length-drop}
+use Rattle.std.proofs.Common.{◌≡◌, ℕ, ◌<◌, ◌≤◌, ◌+◌, ◌-◌, true, List, [], ◌∷◌, ◌++◌, length, take, drop, get_or, arith, sym, ap, ◌∙◌, subst, nat_le, false, zero, suc, ⊎_elim, take_all, length-drop}
 use Rattle.std.proofs.Math.ListN.{drop_of_length-le}
 use Rattle.std.proofs.lemmas.Bool.{cases_Bool}
 use Rattle.std.proofs.lemmas.Bool.Decides.{nat_tests}
 use Rattle.std.specs.Prelude.{ℤ, pos, negsuc, ◌≤ℤ◌, slice_get, slice_set, FitsSigned}
 use Rattle.std.specs.Int.{w8}
 use Rattle.std.proofs.lemmas.Int.{ints}
-use Rattle.std.proofs.lemmas.List.{set-append_left, set-append_right}
-use Rattle.std.proofs.lemmas.List.{take_more, take_more_set, get_or-drop, take-append-drop}
+use Rattle.std.proofs.lemmas.List.{set-append_left, set-append_right, take_more, take_more_set, get_or-drop, take-append-drop}
 use Rattle.fibs_fields.specs.Board.{Fit, allowed_by, can_have, field_values}
 use Rattle.fibs_fields.proofs.BoardLemmas.FieldGroups.{can_have_by}
 use Rattle.fibs_fields.proofs.BoardLemmas.FieldRangeLaws.{field_ranges}

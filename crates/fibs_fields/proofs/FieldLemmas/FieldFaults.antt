@@ -1,6 +1,5 @@
 -- The first wrong field, both ways.
-use Rattle.std.proofs.Common.{◌≡◌, ◌∙◌, ℕ, zero, suc, ◌+◌, ◌<◌, Bool, true, false, List, [], ◌∷◌, Option, Some, None}
-use Rattle.std.proofs.Common.{Result, Ok, Err, refl, sym, ap, subst, arith, inl, inr}
+use Rattle.std.proofs.Common.{◌≡◌, ◌∙◌, ℕ, zero, suc, ◌+◌, ◌<◌, Bool, true, false, List, [], ◌∷◌, Option, Some, None, Result, Ok, Err, refl, sym, ap, subst, arith, inl, inr}
 use Rattle.std.specs.Result.{result_err}
 use Rattle.std.specs.Str.{bytes_eq}
 use Rattle.std.proofs.lemmas.Bool.{cases_Bool, cases_order}
@@ -8,12 +7,8 @@ use Rattle.fibs_fields.specs.declared.fault.FieldFault.{FieldFault}
 use Rattle.fibs_fields.specs.declared.fault.Fault.{Fault}
 use Rattle.fibs_fields.specs.declared.fault.Fault.TheVariants.{Missing}
 use Rattle.fibs_fields.specs.Decimal.{number_in}
-use Rattle.fibs_fields.specs.Field.{Kind, the_word, a_number_of, a_name, a_word, a_tail, a_flag, a_number, a_rating}
-use Rattle.fibs_fields.specs.Field.{a_text, FieldValue, FlagField, NumberField, RatingField, TextField, takes_rest}
-use Rattle.fibs_fields.specs.Field.{may_be_absent, flag_values, number_values, fault_in, texts_for, fault_at}
-use Rattle.fibs_fields.specs.Field.{bad_name_unless}
-use Rattle.fibs_fields.specs.FieldReading.{Left, left, ◌>>=◌, good, natural, numbered, fault_of_field, value_in}
-use Rattle.fibs_fields.specs.FieldReading.{text_at, field_at, end_at, fields_at}
+use Rattle.fibs_fields.specs.Field.{Kind, the_word, a_number_of, a_name, a_word, a_tail, a_flag, a_number, a_rating, a_text, FieldValue, FlagField, NumberField, RatingField, TextField, takes_rest, may_be_absent, flag_values, number_values, fault_in, texts_for, fault_at, bad_name_unless}
+use Rattle.fibs_fields.specs.FieldReading.{Left, left, ◌>>=◌, good, natural, numbered, fault_of_field, value_in, text_at, field_at, end_at, fields_at}
 use Rattle.fibs_fields.specs.Name.{is_name}
 use Rattle.fibs_fields.specs.Rating.{rating_in}
 use Rattle.fibs_fields.specs.Split.{before, after}

@@ -1,26 +1,20 @@
 -- A value and the texts that spell it, both ways.
-use Rattle.std.proofs.Common.{◌≡◌, ◌∙◌, ℕ, zero, suc, ◌+◌, ◌-◌, ◌*◌, ◌^◌, ◌<◌, Bool, true, false, not, leb, eqb, List}
-use Rattle.std.proofs.Common.{[], ◌∷◌, ◌++◌, decimal, Option, Some, None, Result, Ok, Err, refl, sym, ap, subst, arith}
-use Rattle.std.proofs.Common.{inl, inr, lit<}
+use Rattle.std.proofs.Common.{◌≡◌, ◌∙◌, ℕ, zero, suc, ◌+◌, ◌-◌, ◌*◌, ◌^◌, ◌<◌, Bool, true, false, not, leb, eqb, List, [], ◌∷◌, ◌++◌, decimal, Option, Some, None, Result, Ok, Err, refl, sym, ap, subst, arith, inl, inr, lit<}
 use Rattle.std.specs.Prelude.{◌||◌, ℤ, pos, negsuc, nat_lt}
 use Rattle.std.specs.Char.{is_ascii_digit}
 use Rattle.std.specs.List.{list_all}
 use Rattle.std.specs.Str.Parse.{digits_value}
 use Rattle.std.specs.Fmt.{signed_decimal}
-use Rattle.std.proofs.lemmas.Bool.{cases_Bool, ne_eqb, and_parts, and_from, leb-true, le-leb, ltb-true, lt-ltb}
-use Rattle.std.proofs.lemmas.Bool.{not_from_false, or_right}
+use Rattle.std.proofs.lemmas.Bool.{cases_Bool, ne_eqb, and_parts, and_from, leb-true, le-leb, ltb-true, lt-ltb, not_from_false, or_right}
 use Rattle.std.proofs.lemmas.Bool.Decides.{nat_tests}
 use Rattle.std.proofs.lemmas.Int.{ints}
 use Rattle.std.proofs.lemmas.Fmt.{digits_decimal, decimal_digit, digits_value-decimal}
 use Rattle.fibs_fields.specs.Decimal.{numbers_of_32_bits, is_positive, is_zero, allows, number_in}
 use Rattle.fibs_fields.specs.DecimalReading.{IsNarrow}
-use Rattle.fibs_fields.specs.Field.{Kind, the_word, a_number_of, a_name, a_word, a_tail, a_flag, a_number, a_rating}
-use Rattle.fibs_fields.specs.Field.{a_text, FieldValue, NameField, WordField, TailField, FlagField, NumberField}
-use Rattle.fibs_fields.specs.Field.{RatingField, TextField, kind_of, Spells, flag_text, flag_values, number_values}
+use Rattle.fibs_fields.specs.Field.{Kind, the_word, a_number_of, a_name, a_word, a_tail, a_flag, a_number, a_rating, a_text, FieldValue, NameField, WordField, TailField, FlagField, NumberField, RatingField, TextField, kind_of, Spells, flag_text, flag_values, number_values}
 use Rattle.fibs_fields.specs.FieldReading.{◌>>=◌, good, natural, value_in}
 use Rattle.fibs_fields.specs.Name.{is_name}
-use Rattle.fibs_fields.specs.Rating.{RatingText, FractionText, no_fraction, tenths, is_fraction, hundredths_of}
-use Rattle.fibs_fields.specs.Rating.{is_rating, rating_value, rating_in}
+use Rattle.fibs_fields.specs.Rating.{RatingText, FractionText, no_fraction, tenths, is_fraction, hundredths_of, is_rating, rating_value, rating_in}
 use Rattle.fibs_fields.specs.Rating as rating
 use Rattle.fibs_fields.specs.Split.{before, after}
 use Rattle.fibs_fields.specs.Word.{is_word, is_tail}

@@ -1,19 +1,15 @@
 -- Runs of bytes, and where a window of 16 bytes shows that one ends.
-use Rattle.std.proofs.Common.{◌≡◌, ◌∙◌, ℕ, suc, ◌%◌, ◌^◌, ◌<◌, ◌≤◌, ltb, leb, eqb, cond, Bool, true, false, not, ◌&&◌}
-use Rattle.std.proofs.Common.{List, length, get_or, take, drop, map, replicate, Some, refl, sym, ap, subst, arith}
-use Rattle.std.proofs.Common.{inl, inr, w64, bit_or, true≢false}
+use Rattle.std.proofs.Common.{◌≡◌, ◌∙◌, ℕ, suc, ◌%◌, ◌^◌, ◌<◌, ◌≤◌, ltb, leb, eqb, cond, Bool, true, false, not, ◌&&◌, List, length, get_or, take, drop, map, replicate, Some, refl, sym, ap, subst, arith, inl, inr, w64, bit_or, true≢false}
 use Rattle.std.specs.Char.{is_ascii_digit}
 use Rattle.std.specs.Int.{bit_at}
 use Rattle.std.specs.List.{prefix_len}
 use Rattle.std.specs.Simd.Lanes.{mask_l, top, zip2}
-use Rattle.std.proofs.lemmas.Bool.{cases_lt, cases_eq, lt-ltb, le-ltb, le-leb, lt-leb, leb-true, eq-eqb, ne_eqb}
-use Rattle.std.proofs.lemmas.Bool.{cond-false, and_from, and_right}
+use Rattle.std.proofs.lemmas.Bool.{cases_lt, cases_eq, lt-ltb, le-ltb, le-leb, lt-leb, leb-true, eq-eqb, ne_eqb, cond-false, and_from, and_right}
 use Rattle.std.proofs.lemmas.List.{length-map}
 use Rattle.std.proofs.lemmas.List.Folds.{prefix_len-append}
 use Rattle.std.proofs.lemmas.List.Sums.{prefix_len-le-length, prefix_len_passes, prefix_len_stops}
 use Rattle.std.proofs.lemmas.Nat.Bits.{bit_at-trailing_zeros}
-use Rattle.std.proofs.lemmas.Simd.{chunk-drop, length-chunk, map-map, mask_l-lt, mask_l-mod, trailing_mask_l}
-use Rattle.std.proofs.lemmas.Simd.{zip2_of_maps, zip2_splat, zip2_splat_left}
+use Rattle.std.proofs.lemmas.Simd.{chunk-drop, length-chunk, map-map, mask_l-lt, mask_l-mod, trailing_mask_l, zip2_of_maps, zip2_splat, zip2_splat_left}
 use lib.Lanes.{chunk}
 use lib.Count.{count_trailing_zeros}
 use Rattle.bstr.specs.Find.{IsFirstByte, is_byte}

@@ -1,6 +1,5 @@
 -- Digits and the numbers that they write.
-use Rattle.std.proofs.Common.{◌≡◌, ℕ, ◌<◌, ◌^◌, ◌∙◌, refl, rules, List, true, length, get_or, arith, ◌≤◌, ◌-◌, ◌+◌, ◌*◌}
-use Rattle.std.proofs.Common.{zero, suc, [], ◌∷◌, take}
+use Rattle.std.proofs.Common.{◌≡◌, ℕ, ◌<◌, ◌^◌, ◌∙◌, refl, rules, List, true, length, get_or, arith, ◌≤◌, ◌-◌, ◌+◌, ◌*◌, zero, suc, [], ◌∷◌, take}
 use Rattle.std.specs.Char.{is_ascii_digit, digit_value}
 use Rattle.std.specs.List.{list_all}
 use Rattle.std.proofs.lemmas.List.{length-take-le}

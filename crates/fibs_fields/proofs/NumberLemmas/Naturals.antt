@@ -1,6 +1,5 @@
 -- Canonical decimals of 64 bits without sign.
-use Rattle.std.proofs.Common.{◌≡◌, ℕ, zero, suc, ◌<◌, ◌^◌, ◌&&◌, ◌||◌, Bool, true, false, cond, List, [], ◌∷◌, drop}
-use Rattle.std.proofs.Common.{Some, Ok, Err, arith, refl, sym, ap, ◌∙◌, lit<, ⊎_elim}
+use Rattle.std.proofs.Common.{◌≡◌, ℕ, zero, suc, ◌<◌, ◌^◌, ◌&&◌, ◌||◌, Bool, true, false, cond, List, [], ◌∷◌, drop, Some, Ok, Err, arith, refl, sym, ap, ◌∙◌, lit<, ⊎_elim}
 use Rattle.std.specs.Prelude.{ℤ, pos, negsuc, neg_ℤ}
 use Rattle.std.specs.Str.Parse.{digits_value, starts_with_minus}
 use Rattle.std.proofs.lemmas.Bool.{cases_Bool, and_parts, or_cases}
@@ -12,8 +11,7 @@ use Rattle.std.specs.Fmt.{decimal}
 use Rattle.fibs_fields.specs.Decimal.{is_positive, is_zero, decimal_value, allows, number_in, number_if_allowed}
 use Rattle.fibs_fields.specs.Field.{number_values}
 use Rattle.fibs_fields.specs.declared.fault.Fault.TheVariants.{OutOfRange}
-use Rattle.fibs_fields.proofs.NumberLemmas.Spelled.{own, positive_parts, positive_spelled, positive_value}
-use Rattle.fibs_fields.proofs.NumberLemmas.Spelled.{plain_value, written_positive, zero_text, value_allowed}
+use Rattle.fibs_fields.proofs.NumberLemmas.Spelled.{own, positive_parts, positive_spelled, positive_value, plain_value, written_positive, zero_text, value_allowed}
 
 -- a number below 0 is out of the range
 below_zero : (n : ℕ) → 0 < n → number_if_allowed number_values (Some (neg_ℤ (pos n))) ≡ Err OutOfRange

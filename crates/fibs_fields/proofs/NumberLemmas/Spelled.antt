@@ -1,7 +1,5 @@
 -- A canonical decimal and its number determine each other.
-use Rattle.std.proofs.Common.{◌≡◌, ◌≢◌, ℕ, zero, suc, ◌<◌, ◌≤◌, ◌^◌, ◌==◌, ◌&&◌, ◌||◌, true, false, not, cond, List, []}
-use Rattle.std.proofs.Common.{◌∷◌, Option, Some, None, Result, Ok, Err, length, get_or, arith, rules, nat_lt, lit<}
-use Rattle.std.proofs.Common.{refl, sym, ap, ◌∙◌, subst, ⊎_elim}
+use Rattle.std.proofs.Common.{◌≡◌, ◌≢◌, ℕ, zero, suc, ◌<◌, ◌≤◌, ◌^◌, ◌==◌, ◌&&◌, ◌||◌, true, false, not, cond, List, [], ◌∷◌, Option, Some, None, Result, Ok, Err, length, get_or, arith, rules, nat_lt, lit<, refl, sym, ap, ◌∙◌, subst, ⊎_elim}
 use Rattle.std.specs.Prelude.{ℤ, pos, negsuc, neg_ℤ, FitsSigned}
 use Rattle.std.specs.Char.{is_ascii_digit}
 use Rattle.std.specs.List.{list_all}
@@ -13,8 +11,7 @@ use Rattle.std.proofs.Math.Bool.{or-true}
 use Rattle.fibs_fields.proofs.NumberLemmas.Digits.{digit_low}
 use Rattle.std.proofs.lemmas.Bool.Decides.{nat_tests}
 use Rattle.std.proofs.lemmas.Option.{cond_some}
-use Rattle.std.proofs.lemmas.Fmt.{decimal-digits_value, decimal_digit, decimal_nonempty, first_decimal, digits_decimal}
-use Rattle.std.proofs.lemmas.Fmt.{digits_value-decimal}
+use Rattle.std.proofs.lemmas.Fmt.{decimal-digits_value, decimal_digit, decimal_nonempty, first_decimal, digits_decimal, digits_value-decimal}
 use Rattle.std.proofs.lemmas.Str.Parse.{IsNumeralModel, numerals_by_value}
 use Rattle.fibs_fields.specs.Decimal.{is_positive, is_zero, decimal_value, allows, number_in, number_if_allowed}
 use Rattle.fibs_fields.specs.DecimalReading.{IsNarrow}

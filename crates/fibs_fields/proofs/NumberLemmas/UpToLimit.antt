@@ -1,6 +1,5 @@
 -- A canonical decimal without sign that is not above a limit, and its number.
-use Rattle.std.proofs.Common.{◌≡◌, ℕ, ◌<◌, ◌≤◌, ◌^◌, ◌&&◌, ◌||◌, true, false, cond, List, Some, None, Result, Ok, Err}
-use Rattle.std.proofs.Common.{arith, refl, sym, ap, ◌∙◌, inl, inr, nat_le, nat_lt}
+use Rattle.std.proofs.Common.{◌≡◌, ℕ, ◌<◌, ◌≤◌, ◌^◌, ◌&&◌, ◌||◌, true, false, cond, List, Some, None, Result, Ok, Err, arith, refl, sym, ap, ◌∙◌, inl, inr, nat_le, nat_lt}
 use Rattle.std.specs.Prelude.{◌↔◌, Option}
 use Rattle.std.specs.Fmt.{decimal}
 use Rattle.std.specs.Str.Parse.{digits_value}

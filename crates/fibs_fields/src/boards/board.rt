@@ -1,15 +1,13 @@
 //! Boards of FIBS board style 3.
 
-ghost use Rattle.std.specs.Prelude.{◌≡◌, ◌≢◌, ◌≤◌, IfSome, IsSome, ◌↔◌, ◌++◌, ◌+◌, ℕ, true};
-ghost use Rattle.std.specs.Prelude.{IfOk, IfErr, OnOk, OnErr, drop, option_map, Ok, Err};
+ghost use Rattle.std.specs.Prelude.{◌≡◌, ◌≢◌, ◌≤◌, IfSome, IsSome, ◌↔◌, ◌++◌, ◌+◌, ℕ, true, IfOk, IfErr, OnOk, OnErr, drop, option_map, Ok, Err};
 ghost use Rattle.fibs_fields.specs.StoredParts.{parts};
 ghost use Rattle.fibs_fields.specs.Bytes.{name_bytes};
 ghost use Rattle.fibs_fields.specs.BoardProp.{IsBoard-prop};
 ghost use Rattle.fibs_fields.specs.FieldReading.{natural};
 ghost use Rattle.fibs_fields.specs.Name.{is_name};
 ghost use Rattle.arrayvec.specs.ArrayVec.{array_vec_len};
-ghost use Rattle.fibs_fields.specs.Board.{BoardFields, IsBoard, Fit, field_values, spelling, BoardText, Wrong};
-ghost use Rattle.fibs_fields.specs.Board.{field_of, can_have, with_field};
+ghost use Rattle.fibs_fields.specs.Board.{BoardFields, IsBoard, Fit, field_values, spelling, BoardText, Wrong, field_of, can_have, with_field};
 
 use crate::boards::field_ranges::can_have;
 use crate::boards::numbers::Numbers;

@@ -1,7 +1,6 @@
 //! Laws of boards and their lines.
 
-ghost use Rattle.std.specs.Prelude.{◌≡◌, ◌↔◌, ◌⊎◌, ℕ, List, Ok, IsTrue};
-ghost use Rattle.std.specs.Prelude.{true};
+ghost use Rattle.std.specs.Prelude.{◌≡◌, ◌↔◌, ◌⊎◌, ℕ, List, Ok, IsTrue, true};
 ghost use Rattle.fibs_fields.specs.Board.{BoardFields, IsBoard, BoardText, Wrong, is_board, spelling};
 ghost use Rattle.fibs_fields.specs.FieldRanges.{FieldRanges};
 ghost use Rattle.fibs_fields.specs.Spaces.{without_spaces};

@@ -1,8 +1,6 @@
 -- What one element more at the end of a list changes: what is after the last that passes a test, the first that
 -- passes, the last of those that pass.
-use Rattle.std.proofs.Common.{◌≡◌, ℕ, ◌+◌, ◌-◌, ◌<◌, ◌≤◌, zero, suc, Bool, true, false, cond, not, List, [], ◌∷◌, ◌++◌}
-use Rattle.std.proofs.Common.{length, drop, reverse, filter, Option, None, Some, is_some, true≢false, refl, sym, ap}
-use Rattle.std.proofs.Common.{◌∙◌, arith, length-append}
+use Rattle.std.proofs.Common.{◌≡◌, ℕ, ◌+◌, ◌-◌, ◌<◌, ◌≤◌, zero, suc, Bool, true, false, cond, not, List, [], ◌∷◌, ◌++◌, length, drop, reverse, filter, Option, None, Some, is_some, true≢false, refl, sym, ap, ◌∙◌, arith, length-append}
 use Rattle.std.specs.List.{after_last, last_or, position_or_len, prefix_len, suffix_len}
 use Rattle.std.proofs.lemmas.List.{reverse-append}
 

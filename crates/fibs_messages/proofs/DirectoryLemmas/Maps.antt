@@ -1,6 +1,5 @@
 -- The entries of the map of a `Directory` and their values.
-use Rattle.std.proofs.Common.{◌≡◌, ℕ, ◌≤◌, Bool, true, false, cond, List, [], ◌∷◌, length, Option, None, Some, Bor}
-use Rattle.std.proofs.Common.{Vec, refl, sym, ap, ◌∙◌, subst, suc, not, is_some, is_none, ◌&&◌, nat_eq, arith}
+use Rattle.std.proofs.Common.{◌≡◌, ℕ, ◌≤◌, Bool, true, false, cond, List, [], ◌∷◌, length, Option, None, Some, Bor, Vec, refl, sym, ap, ◌∙◌, subst, suc, not, is_some, is_none, ◌&&◌, nat_eq, arith}
 use Rattle.std.specs.Cmp.Lexicographic.{bytes_decides}
 use Rattle.std.specs.Map.{lookup, remove_entry}
 use Rattle.std.specs.Option.{option_map, option_copied}

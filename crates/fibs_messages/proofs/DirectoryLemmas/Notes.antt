@@ -1,29 +1,16 @@
 -- The directory of a list of messages followed by one more.
-use Rattle.std.proofs.Common.{◌≡◌, ℕ, ◌<◌, Bool, true, false, cond, ◌&&◌, List, [], ◌∷◌, ◌++◌, length, map}
-use Rattle.std.proofs.Common.{None, Some, is_some, Bor, true≢false, ne_eqb, ◌≢◌, refl, sym, ap, subst, ◌∙◌, arith}
+use Rattle.std.proofs.Common.{◌≡◌, ℕ, ◌<◌, Bool, true, false, cond, ◌&&◌, List, [], ◌∷◌, ◌++◌, length, map, None, Some, is_some, Bor, true≢false, ne_eqb, ◌≢◌, refl, sym, ap, subst, ◌∙◌, arith}
 use Rattle.std.specs.List.{AllByRecursion}
-use Rattle.fibs_messages.specs.Message.{MessageValue}
-use Rattle.fibs_messages.specs.Message.{message_of}
+use Rattle.fibs_messages.specs.Message.{MessageValue, message_of}
 use Rattle.fibs_fields.specs.Bytes.{name_bytes}
 use Rattle.fibs_messages.specs.declared.message.Message.{Message}
-use Rattle.fibs_messages.specs.declared.message.Message.TheVariants.{Welcome, OwnInfo as TheOwnInfo, MotdBegin}
-use Rattle.fibs_messages.specs.declared.message.Message.TheVariants.{MotdEnd, WhoInfo as TheWhoInfo}
-use Rattle.fibs_messages.specs.declared.message.Message.TheVariants.{WhoInfoEnd, Login, Logout}
-use Rattle.fibs_messages.specs.declared.message.Message.TheVariants.{MessageReceived, MessageDelivered}
-use Rattle.fibs_messages.specs.declared.message.Message.TheVariants.{MessageSaved, Says, Shouts, Whispers}
-use Rattle.fibs_messages.specs.declared.message.Message.TheVariants.{Kibitzes, YouSay, YouShout, YouWhisper}
-use Rattle.fibs_messages.specs.declared.message.Message.TheVariants.{YouKibitz}
+use Rattle.fibs_messages.specs.declared.message.Message.TheVariants.{Welcome, OwnInfo as TheOwnInfo, MotdBegin, MotdEnd, WhoInfo as TheWhoInfo, WhoInfoEnd, Login, Logout, MessageReceived, MessageDelivered, MessageSaved, Says, Shouts, Whispers, Kibitzes, YouSay, YouShout, YouWhisper, YouKibitz}
 use Rattle.fibs_messages.specs.declared.message.WhoInfo.{WhoInfo}
 use Rattle.fibs_fields.specs.declared.name.Name.{Name}
-use Rattle.fibs_messages.specs.Directory.{name_of, is_of, tells, logs_out, last_told, first_place, entry_of}
-use Rattle.fibs_messages.specs.Directory.{IsDirectory}
+use Rattle.fibs_messages.specs.Directory.{name_of, is_of, tells, logs_out, last_told, first_place, entry_of, IsDirectory}
 use Rattle.fibs_messages.specs.Directory.Steps.{with_entry, without_entry}
-use Rattle.fibs_messages.proofs.DirectoryLemmas.Told.{last_told-logout, last_told-other, last_told-told}
-use Rattle.fibs_messages.proofs.DirectoryLemmas.Told.{first_place-known, first_place-new, first_place-within}
-use Rattle.fibs_messages.proofs.DirectoryLemmas.Entries.{own_name, entry-with, entry-without, Rising}
-use Rattle.fibs_messages.proofs.DirectoryLemmas.Entries.{pairs_from_rising, rising_from_pairs, rising-same}
-use Rattle.fibs_messages.proofs.DirectoryLemmas.Entries.{rising-snoc}
-use Rattle.fibs_messages.proofs.DirectoryLemmas.Entries.{rising-without, names-known, names-new, named, all-map}
+use Rattle.fibs_messages.proofs.DirectoryLemmas.Told.{last_told-logout, last_told-other, last_told-told, first_place-known, first_place-new, first_place-within}
+use Rattle.fibs_messages.proofs.DirectoryLemmas.Entries.{own_name, entry-with, entry-without, Rising, pairs_from_rising, rising_from_pairs, rising-same, rising-snoc, rising-without, names-known, names-new, named, all-map}
 
 -- no message came: nobody is there
 pub directory_of_none : IsDirectory [] []

@@ -1,12 +1,9 @@
 -- How a name's last message 5, and the place of its first, change with one message more.
-use Rattle.std.proofs.Common.{◌≡◌, ℕ, ◌+◌, ◌-◌, ◌<◌, ◌≤◌, true, false, not, List, [], ◌∷◌, ◌++◌, length}
-use Rattle.std.proofs.Common.{filter, None, Some, is_some, ap, ◌∙◌, arith, length-append, length-drop}
+use Rattle.std.proofs.Common.{◌≡◌, ℕ, ◌+◌, ◌-◌, ◌<◌, ◌≤◌, true, false, not, List, [], ◌∷◌, ◌++◌, length, filter, None, Some, is_some, ap, ◌∙◌, arith, length-append, length-drop}
 use Rattle.std.specs.List.{last_or, position_or_len, suffix_len}
 use Rattle.fibs_messages.specs.Message.{MessageValue}
 use Rattle.fibs_messages.specs.Directory.{tells, logs_out, since_logout, last_told, first_place}
-use Rattle.fibs_messages.proofs.DirectoryLemmas.Ends.{last_or-snoc, after_last-end, after_last-more, filter-snoc_no}
-use Rattle.fibs_messages.proofs.DirectoryLemmas.Ends.{filter-snoc_yes, position-snoc_found, position-snoc_new}
-use Rattle.fibs_messages.proofs.DirectoryLemmas.Ends.{found_from_last, absent_from_last}
+use Rattle.fibs_messages.proofs.DirectoryLemmas.Ends.{last_or-snoc, after_last-end, after_last-more, filter-snoc_no, filter-snoc_yes, position-snoc_found, position-snoc_new, found_from_last, absent_from_last}
 
 -- no more messages came since a logout than came at all
 since_within : (name : List ℕ) (ms : List MessageValue) → length (since_logout name ms) ≤ length ms

@@ -1,6 +1,5 @@
 -- The function that gives a line its reading is exact.
-use Rattle.std.proofs.Common.{◌≡◌, ◌==◌, ℕ, Bool, true, false, if◌then◌else◌, List, [], ◌∷◌, Option, Some, None, Result}
-use Rattle.std.proofs.Common.{Ok, Err, IfSome, ◌↔◌, codes, map, refl, sym, ap, ◌∙◌, subst, inl, inr, ◌⊎◌, true≢false}
+use Rattle.std.proofs.Common.{◌≡◌, ◌==◌, ℕ, Bool, true, false, if◌then◌else◌, List, [], ◌∷◌, Option, Some, None, Result, Ok, Err, IfSome, ◌↔◌, codes, map, refl, sym, ap, ◌∙◌, subst, inl, inr, ◌⊎◌, true≢false}
 use Rattle.std.specs.Prelude.{ℤ}
 use Rattle.std.specs.Fmt.{signed_decimal}
 use Rattle.std.specs.List.{starts_with, All}
@@ -18,8 +17,7 @@ use Rattle.fibs_fields.specs.Field.{FieldValue}
 use Rattle.fibs_fields.specs.FieldReading.{fields_at, left}
 use Rattle.fibs_messages.specs.LineReading.{IsAsRead}
 use Rattle.fibs_messages.specs.Message.{kinds_of, kept, number_word, HasNumber}
-use Rattle.fibs_messages.specs.Line.{board_line, IsReading, number_or_0, numbers_in, board_in, board_reading}
-use Rattle.fibs_messages.specs.Line.{message_reading, other_reading, reading_value, IsOfNumber, ReadingIsExact}
+use Rattle.fibs_messages.specs.Line.{board_line, IsReading, number_or_0, numbers_in, board_in, board_reading, message_reading, other_reading, reading_value, IsOfNumber, ReadingIsExact}
 use Rattle.fibs_fields.proofs.BoardLemmas.FieldTable.{all_narrow}
 use Rattle.fibs_fields.proofs.NumberLemmas.Spelled.{number_in-written}
 use Rattle.fibs_fields.proofs.BoardLemmas.BoardTexts.{pieces_of_board, texts_right, first_from_wrong}

@@ -2,15 +2,12 @@
 use Rattle.std.proofs.Common.{inl, inr, None, ◌≡◌, ℕ, List, sym, ap, ◌∙◌, subst, refl}
 use Rattle.std.specs.Prelude.{◌↔◌}
 use Rattle.fibs_fields.specs.Board.{BoardFields, BoardText}
-use Rattle.fibs_messages.specs.Line.{IsBoardLine, IsMalformed, IsText, ReadingValue, numbered_line, board_line}
-use Rattle.fibs_messages.specs.Line.{text_line, malformed_line, IsReading}
+use Rattle.fibs_messages.specs.Line.{IsBoardLine, IsMalformed, IsText, ReadingValue, numbered_line, board_line, text_line, malformed_line, IsReading}
 use Rattle.fibs_messages.specs.LineReading.{IsAsRead}
 use Rattle.fibs_messages.specs.Message.{number_word, MessageValue, MessageText, IsNumbered}
 use Rattle.fibs_fields.specs.Split.{before}
 use Rattle.fibs_messages.proofs.MessageLemmas.MessageLines.{reads_line}
-use Rattle.fibs_messages.proofs.MessageLemmas.MessageReadings.{one_message, message_not_wrong, one_wrong}
-use Rattle.fibs_messages.proofs.MessageLemmas.MessageReadings.{message_numbered, board_not_numbered, number_of}
-use Rattle.fibs_messages.proofs.MessageLemmas.MessageReadings.{reads_wrong}
+use Rattle.fibs_messages.proofs.MessageLemmas.MessageReadings.{one_message, message_not_wrong, one_wrong, message_numbered, board_not_numbered, number_of, reads_wrong}
 use Rattle.fibs_fields.specs.declared.fault.Fault.{Fault}
 use Rattle.fibs_fields.proofs.BoardLemmas.EachLine.{one_board, one_fault, not_both}
 use Rattle.fibs_fields.proofs.FieldLemmas.Options.{some_none}

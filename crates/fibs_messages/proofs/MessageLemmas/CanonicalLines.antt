@@ -1,12 +1,9 @@
 -- The canonical line of a message says it.
-use Rattle.std.proofs.Common.{◌≡◌, ℕ, ◌+◌, ◌*◌, ◌/◌, ◌%◌, ◌<◌, List, [], ◌∷◌, ◌++◌, decimal, refl, sym, ap, subst}
-use Rattle.std.proofs.Common.{arith}
+use Rattle.std.proofs.Common.{◌≡◌, ℕ, ◌+◌, ◌*◌, ◌/◌, ◌%◌, ◌<◌, List, [], ◌∷◌, ◌++◌, decimal, refl, sym, ap, subst, arith}
 use Rattle.std.specs.List.{flat_map, AllByRecursion}
 use Rattle.std.proofs.lemmas.List.{append-nil}
-use Rattle.fibs_fields.specs.Field.{IsValue, FieldValue, NameField, WordField, TailField, FlagField, NumberField}
-use Rattle.fibs_fields.specs.Field.{RatingField, TextField}
-use Rattle.fibs_messages.specs.Message.{MessageValue, FieldText, spelled, no_text, FieldsText, no_fields, more_fields}
-use Rattle.fibs_messages.specs.Message.{MessageText, canonical, canonical_field, IsMessage}
+use Rattle.fibs_fields.specs.Field.{IsValue, FieldValue, NameField, WordField, TailField, FlagField, NumberField, RatingField, TextField}
+use Rattle.fibs_messages.specs.Message.{MessageValue, FieldText, spelled, no_text, FieldsText, no_fields, more_fields, MessageText, canonical, canonical_field, IsMessage}
 use Rattle.fibs_fields.specs.Rating.{FractionText, hundredths, RatingText}
 
 -- two digits are a fraction

@@ -1,23 +1,18 @@
 -- The fields of a message and the text that they are read from, both ways.
-use Rattle.std.proofs.Common.{◌≡◌, ◌∙◌, ℕ, ◌+◌, Bool, true, false, not, leb, eqb, List, [], ◌∷◌, ◌++◌, map, decimal}
-use Rattle.std.proofs.Common.{Option, Some, None, Result, Ok, Err, refl, sym, ap, subst, arith, inl, inr}
+use Rattle.std.proofs.Common.{◌≡◌, ◌∙◌, ℕ, ◌+◌, Bool, true, false, not, leb, eqb, List, [], ◌∷◌, ◌++◌, map, decimal, Option, Some, None, Result, Ok, Err, refl, sym, ap, subst, arith, inl, inr}
 use Rattle.std.specs.Prelude.{◌&&◌}
 use Rattle.std.specs.List.{list_all}
 use Rattle.std.proofs.lemmas.Bool.{and_parts, and_from, leb-true, cases_Bool, not_from_false, ne_eqb}
 use Rattle.std.proofs.lemmas.List.{append-nil}
 use Rattle.fibs_fields.specs.declared.fault.Fault.{Fault}
-use Rattle.fibs_fields.specs.Field.{Kind, the_word, a_number_of, a_name, a_word, a_tail, a_flag, a_number, a_rating}
-use Rattle.fibs_fields.specs.Field.{a_text, FieldValue, NameField, WordField, TailField, FlagField, NumberField}
-use Rattle.fibs_fields.specs.Field.{RatingField, TextField, kind_of, takes_rest, Spells}
-use Rattle.fibs_fields.specs.FieldReading.{Left, left, ◌>>=◌, numbered, value_in, text_at, field_at, end_at}
-use Rattle.fibs_fields.specs.FieldReading.{fields_at}
+use Rattle.fibs_fields.specs.Field.{Kind, the_word, a_number_of, a_name, a_word, a_tail, a_flag, a_number, a_rating, a_text, FieldValue, NameField, WordField, TailField, FlagField, NumberField, RatingField, TextField, kind_of, takes_rest, Spells}
+use Rattle.fibs_fields.specs.FieldReading.{Left, left, ◌>>=◌, numbered, value_in, text_at, field_at, end_at, fields_at}
 use Rattle.fibs_messages.specs.Message.{FieldText, spelled, no_text, FieldsText, no_fields, more_fields}
 use Rattle.fibs_fields.specs.Name.{is_name_byte}
 use Rattle.fibs_fields.specs.Rating.{FractionText}
 use Rattle.fibs_fields.specs.Rating as rating
 use Rattle.fibs_fields.specs.Split.{before, after}
-use Rattle.fibs_fields.proofs.FieldLemmas.FieldValues.{has_values, bind_ok, ok_is, value_sound, value_complete}
-use Rattle.fibs_fields.proofs.FieldLemmas.FieldValues.{all_weaker, decimal_has_no}
+use Rattle.fibs_fields.proofs.FieldLemmas.FieldValues.{has_values, bind_ok, ok_is, value_sound, value_complete, all_weaker, decimal_has_no}
 use Rattle.fibs_fields.proofs.FieldLemmas.Splits.{behind, opened, HeadIs, before-behind, has_no, cut_off}
 
 -- a fault that gets its field was there before

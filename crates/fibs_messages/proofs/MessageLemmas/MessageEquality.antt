@@ -7,12 +7,7 @@ use Rattle.fibs_fields.specs.Field.{FieldValue, NameField, WordField, NumberFiel
 use Rattle.fibs_messages.specs.Message.{MessageValue, message, message_of, own_info_fields, who_info_fields}
 use Rattle.fibs_messages.specs.contracts.message.MessagePartialEq.TheImpl.{eq-value}
 use Rattle.fibs_messages.specs.declared.message.Message.{Message}
-use Rattle.fibs_messages.specs.declared.message.Message.TheVariants.{Welcome, OwnInfo, MotdBegin, MotdEnd}
-use Rattle.fibs_messages.specs.declared.message.Message.TheVariants.{WhoInfo, WhoInfoEnd, Login, Logout}
-use Rattle.fibs_messages.specs.declared.message.Message.TheVariants.{MessageReceived, MessageDelivered}
-use Rattle.fibs_messages.specs.declared.message.Message.TheVariants.{MessageSaved, Says, Shouts, Whispers}
-use Rattle.fibs_messages.specs.declared.message.Message.TheVariants.{Kibitzes, YouSay, YouShout, YouWhisper}
-use Rattle.fibs_messages.specs.declared.message.Message.TheVariants.{YouKibitz}
+use Rattle.fibs_messages.specs.declared.message.Message.TheVariants.{Welcome, OwnInfo, MotdBegin, MotdEnd, WhoInfo, WhoInfoEnd, Login, Logout, MessageReceived, MessageDelivered, MessageSaved, Says, Shouts, Whispers, Kibitzes, YouSay, YouShout, YouWhisper, YouKibitz}
 use Rattle.fibs_fields.proofs.FieldLemmas.Equality.{never, same_values, same_values_decides}
 
 -- messages of one number are equal exactly if their fields are

@@ -1,7 +1,5 @@
 -- A message and its line, both ways.
-use Rattle.std.proofs.Common.{◌≡◌, ◌∙◌, ℕ, zero, suc, ◌-◌, ◌^◌, ◌<◌, ◌==◌, true, false, not, leb, ltb, eqb, List, []}
-use Rattle.std.proofs.Common.{◌∷◌, ◌++◌, length, get_or, map, decimal, replicate, Option, Ok, refl, sym, ap, subst}
-use Rattle.std.proofs.Common.{arith, inl, inr, append_assoc}
+use Rattle.std.proofs.Common.{◌≡◌, ◌∙◌, ℕ, zero, suc, ◌-◌, ◌^◌, ◌<◌, ◌==◌, true, false, not, leb, ltb, eqb, List, [], ◌∷◌, ◌++◌, length, get_or, map, decimal, replicate, Option, Ok, refl, sym, ap, subst, arith, inl, inr, append_assoc}
 use Rattle.std.specs.Prelude.{◌&&◌}
 use Rattle.std.specs.List.{list_all}
 use Rattle.std.proofs.lemmas.Bool.{cases_Bool, cases_eq, eq-eqb, ne_eqb, and_parts, ltb-true, not-true}
@@ -9,22 +7,18 @@ use Rattle.std.proofs.lemmas.Fmt.{decimal_nonempty}
 use Rattle.std.proofs.lemmas.List.{append-nil}
 use Rattle.std.proofs.lemmas.List.Elements.{All-get_or}
 use Rattle.std.proofs.lemmas.List.Sums.{AllPass-from_list_all}
-use Rattle.fibs_fields.specs.Field.{Kind, FieldValue, NameField, WordField, TailField, FlagField, NumberField}
-use Rattle.fibs_fields.specs.Field.{RatingField, TextField, kind_of, may_be_absent, Spells}
+use Rattle.fibs_fields.specs.Field.{Kind, FieldValue, NameField, WordField, TailField, FlagField, NumberField, RatingField, TextField, kind_of, may_be_absent, Spells}
 use Rattle.fibs_fields.specs.FieldReading.{left, fields_at}
 use Rattle.fibs_messages.specs.LineReading.{ReadsAs}
-use Rattle.fibs_messages.specs.Message.{number_word, MessageValue, FieldText, spelled, no_text, FieldsText, no_fields}
-use Rattle.fibs_messages.specs.Message.{more_fields, MessageText, kinds_of, drops_spaces, kept}
+use Rattle.fibs_messages.specs.Message.{number_word, MessageValue, FieldText, spelled, no_text, FieldsText, no_fields, more_fields, MessageText, kinds_of, drops_spaces, kept}
 use Rattle.fibs_fields.specs.Spaces.{without_spaces}
 use Rattle.fibs_fields.specs.Name.{is_name_byte}
 use Rattle.fibs_fields.specs.Split.{before, after}
-use Rattle.fibs_messages.proofs.MessageLemmas.FieldTexts.{word_no_space, texts_head, fields_sound, fields_complete}
-use Rattle.fibs_messages.proofs.MessageLemmas.FieldTexts.{TextLast}
+use Rattle.fibs_messages.proofs.MessageLemmas.FieldTexts.{word_no_space, texts_head, fields_sound, fields_complete, TextLast}
 use Rattle.fibs_fields.proofs.FieldLemmas.FieldValues.{decimal_has_no}
 use Rattle.fibs_messages.proofs.MessageLemmas.MessageTable.{has_all, values_are, last_is, no_text_where_dropped}
 use Rattle.fibs_messages.proofs.MessageLemmas.NumberWords.{number_sound, number_complete}
-use Rattle.fibs_fields.proofs.FieldLemmas.Spaces.{EndsPlain, ends_append, without_spaces-end}
-use Rattle.fibs_fields.proofs.FieldLemmas.Spaces.{spaces_after}
+use Rattle.fibs_fields.proofs.FieldLemmas.Spaces.{EndsPlain, ends_append, without_spaces-end, spaces_after}
 use Rattle.fibs_fields.proofs.FieldLemmas.Splits.{behind, opened, HeadIs, before-behind, has_no, cut_off, append_head}
 
 -- ---- the fields' text ends without a space, if none is a text

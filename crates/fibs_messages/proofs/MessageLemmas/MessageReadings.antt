@@ -2,16 +2,14 @@
 use Rattle.std.specs.List.{starts_with}
 use Rattle.std.specs.Prelude.{codes}
 use Rattle.std.proofs.lemmas.Bool.{and_parts, eqb-true}
-use Rattle.std.proofs.Common.{eqb, ◌≡◌, ◌∙◌, ℕ, ◌+◌, ◌<◌, ◌⊎◌, inl, inr, List, [], ◌∷◌, Some, None, Result, Ok, Err}
-use Rattle.std.proofs.Common.{refl, sym, ap, subst, arith}
+use Rattle.std.proofs.Common.{eqb, ◌≡◌, ◌∙◌, ℕ, ◌+◌, ◌<◌, ◌⊎◌, inl, inr, List, [], ◌∷◌, Some, None, Result, Ok, Err, refl, sym, ap, subst, arith}
 use Rattle.fibs_fields.specs.declared.fault.FieldFault.{FieldFault}
 use Rattle.fibs_fields.specs.declared.fault.Fault.{Fault}
 use Rattle.fibs_fields.specs.Field.{Kind, FieldValue, fault_at, texts_for}
 use Rattle.fibs_fields.specs.FieldReading.{fields_at, left}
 use Rattle.fibs_messages.specs.Line.{IsBoardLine}
 use Rattle.fibs_messages.specs.LineReading.{ReadsAs}
-use Rattle.fibs_messages.specs.Message.{number_word, MessageValue, MessageText, HasNumber, IsNumbered, WrongMessage}
-use Rattle.fibs_messages.specs.Message.{kinds_of, kept}
+use Rattle.fibs_messages.specs.Message.{number_word, MessageValue, MessageText, HasNumber, IsNumbered, WrongMessage, kinds_of, kept}
 use Rattle.fibs_fields.specs.Split.{before, after}
 use Rattle.fibs_fields.proofs.FieldLemmas.FieldFaults.{Tells, tells, one_first}
 use Rattle.fibs_fields.proofs.FieldLemmas.Options.{option_same, some_none}

@@ -1,12 +1,7 @@
 -- Each message of the program has the number and the kinds of a row of the table.
 use Rattle.std.proofs.Common.{◌≡◌, map, refl, arith}
 use Rattle.fibs_messages.specs.declared.message.Message.{Message}
-use Rattle.fibs_messages.specs.declared.message.Message.TheVariants.{Welcome, OwnInfo, MotdBegin, MotdEnd}
-use Rattle.fibs_messages.specs.declared.message.Message.TheVariants.{WhoInfo, WhoInfoEnd, Login, Logout}
-use Rattle.fibs_messages.specs.declared.message.Message.TheVariants.{MessageReceived, MessageDelivered}
-use Rattle.fibs_messages.specs.declared.message.Message.TheVariants.{MessageSaved, Says, Shouts, Whispers}
-use Rattle.fibs_messages.specs.declared.message.Message.TheVariants.{Kibitzes, YouSay, YouShout, YouWhisper}
-use Rattle.fibs_messages.specs.declared.message.Message.TheVariants.{YouKibitz}
+use Rattle.fibs_messages.specs.declared.message.Message.TheVariants.{Welcome, OwnInfo, MotdBegin, MotdEnd, WhoInfo, WhoInfoEnd, Login, Logout, MessageReceived, MessageDelivered, MessageSaved, Says, Shouts, Whispers, Kibitzes, YouSay, YouShout, YouWhisper, YouKibitz}
 use Rattle.fibs_fields.specs.Field.{IsValue, kind_of}
 use Rattle.std.specs.List.{AllByRecursion}
 use Rattle.fibs_messages.specs.Message.{table, kinds_of, IsNumber, IsMessage, message_of}

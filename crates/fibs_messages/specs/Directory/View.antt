@@ -2,8 +2,7 @@
 use Rattle.std.specs.Prelude.{◌≡◌, ℕ, List, ◌∷◌, [], map, Vec}
 use Rattle.std.specs.List.{AllByRecursion}
 use Rattle.fibs_fields.specs.Field.{NameField, WordField, TailField, FlagField, NumberField, RatingField}
-use Rattle.fibs_messages.specs.Message.{MessageValue}
-use Rattle.fibs_messages.specs.Message.{message}
+use Rattle.fibs_messages.specs.Message.{MessageValue, message}
 use Rattle.fibs_messages.specs.declared.directory.player.Player.{Player}
 
 -- a player as the message 5 that listed it

@@ -1,10 +1,8 @@
 //! The players that the server listed.
 
-ghost use Rattle.std.specs.Prelude.{◌≡◌, ◌≢◌, ◌≤◌, ◌↔◌, ◌++◌, ◌∷◌, [], List, None, false, length, slice_get, OnOk};
-ghost use Rattle.std.specs.Prelude.{OnErr, IsOk, IsErrOf, IsTrue};
+ghost use Rattle.std.specs.Prelude.{◌≡◌, ◌≢◌, ◌≤◌, ◌↔◌, ◌++◌, ◌∷◌, [], List, None, false, length, slice_get, OnOk, OnErr, IsOk, IsErrOf, IsTrue};
 ghost use Rattle.std.specs.Option.{option_map};
-ghost use Rattle.fibs_messages.specs.Message.{MessageValue};
-ghost use Rattle.fibs_messages.specs.Message.{message, message_of, who_info_fields};
+ghost use Rattle.fibs_messages.specs.Message.{MessageValue, message, message_of, who_info_fields};
 ghost use Rattle.fibs_fields.specs.Bytes.{name_bytes};
 ghost use Rattle.fibs_messages.specs.Directory.{directory_limit, name_of, entry_of, IsDirectory};
 ghost use Rattle.fibs_messages.specs.Directory.Steps.{with_entry, without_entry, is_full_for};

@@ -1,7 +1,6 @@
 //! Laws of directories.
 
-ghost use Rattle.fibs_messages.specs.Directory.Laws.{EachListHasADirectory, NoListHasTwoDirectories};
-ghost use Rattle.fibs_messages.specs.Directory.Laws.{OtherMessagesChangeNothing};
+ghost use Rattle.fibs_messages.specs.Directory.Laws.{EachListHasADirectory, NoListHasTwoDirectories, OtherMessagesChangeNothing};
 
 /// Each list of messages has a directory, and no second one.
 pub fn each_list_of_messages_has_one_directory()

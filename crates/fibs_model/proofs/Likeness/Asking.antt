@@ -1,6 +1,5 @@
 -- The client hands out commands.
-use Rattle.std.proofs.Common.{◌≡◌, ◌<◌, ℕ, List, [], ◌∷◌, ◌++◌, Option, Some, None, length, refl, sym, ap, subst, ◌∙◌}
-use Rattle.std.proofs.Common.{arith, append-nil, map}
+use Rattle.std.proofs.Common.{◌≡◌, ◌<◌, ℕ, List, [], ◌∷◌, ◌++◌, Option, Some, None, length, refl, sym, ap, subst, ◌∙◌, arith, append-nil, map}
 use Rattle.fibs_fields.specs.Board.{BoardFields}
 use Rattle.fibs_position.specs.DecisionValue.{DecisionValue}
 use Rattle.fibs_position.specs.GamePart.{same_game}
@@ -10,9 +9,7 @@ use Rattle.fibs_session.specs.declared.histories.refusal.PlainRefusal.{PlainRefu
 use Rattle.fibs_session.specs.History.Log.{Entry, Clicked, Sent, Ordered, Withdrawn}
 use Rattle.fibs_session.specs.History.Words.{open_from, open_now, answer}
 use Rattle.fibs_session.specs.History.Allows.{allows}
-use Rattle.fibs_session.specs.History.Machine.{Talk, answer_now, shown_now, clicks_by, decides_on}
-use Rattle.fibs_session.specs.History.Machine.{plain_refusal, order_refusal, withdraw_refusal, wire_of}
-use Rattle.fibs_session.specs.History.Machine.{sends_plain as talk_sends_plain}
+use Rattle.fibs_session.specs.History.Machine.{Talk, answer_now, shown_now, clicks_by, decides_on, plain_refusal, order_refusal, withdraw_refusal, wire_of, sends_plain as talk_sends_plain}
 use Rattle.fibs_session.specs.History.Machine as M
 use Rattle.fibs_session.specs.Calls.ClientLaws.{ServersEntriesAreSilent}
 use Rattle.fibs_session.specs.Calls.Standing.{StandsAfter}
@@ -26,8 +23,7 @@ use Rattle.fibs_model.specs.Events.{Event, Click, Plain, Order, Withdraw}
 use Rattle.fibs_model.specs.LinksOf.{LinkValue, kept_of, link_at, set_link}
 use Rattle.fibs_model.specs.Server.{command}
 use Rattle.fibs_model.specs.WireLinks.{more_asked}
-use Rattle.fibs_model.specs.World.{World, after, noted, linked, asks, clicks, sends_out, sends_plain, notes_unless}
-use Rattle.fibs_model.specs.World.{talk_of}
+use Rattle.fibs_model.specs.World.{World, after, noted, linked, asks, clicks, sends_out, sends_plain, notes_unless, talk_of}
 use Rattle.fibs_model.specs.WorldOf.{WorldValue, StandsFor, Goes}
 use Rattle.fibs_session.proofs.History.Words.{yes}
 use Rattle.fibs_model.proofs.joint.EachEvent.{said}

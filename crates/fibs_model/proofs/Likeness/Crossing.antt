@@ -1,15 +1,11 @@
 -- What crosses the carrier.
-use Rattle.std.proofs.Common.{◌≡◌, ◌≤◌, ◌<◌, ◌+◌, ◌-◌, ℕ, true, List, [], ◌∷◌, ◌++◌, Option, Some, length, take}
-use Rattle.std.proofs.Common.{drop, get_or, nat_eq, if◌then◌else◌, refl, sym, ap, subst, ◌∙◌, append_assoc, append-nil}
+use Rattle.std.proofs.Common.{◌≡◌, ◌≤◌, ◌<◌, ◌+◌, ◌-◌, ℕ, true, List, [], ◌∷◌, ◌++◌, Option, Some, length, take, drop, get_or, nat_eq, if◌then◌else◌, refl, sym, ap, subst, ◌∙◌, append_assoc, append-nil}
 use Rattle.std.specs.Prelude.{option_map, IfSome, IsSome, Result, Ok, Err, OnOk}
 use Rattle.fibs_fields.specs.Board.{BoardFields}
 use Rattle.fibs_session.specs.History.Machine.{on_wire}
 use Rattle.fibs_model.specs.Carrying.{Crossing, crossed, closed, Joins}
-use Rattle.fibs_model.specs.Crossings.{line_crossed, line_crossings, crossings_of}
-use Rattle.fibs_model.specs.Crossings.{crossings_in, crossings_from, crossings}
-use Rattle.fibs_model.specs.Crossings.{CrossingsJoin}
-use Rattle.fibs_model.specs.Events.{Event, Open, Click, Plain, Deliver, Lose, Serve}
-use Rattle.fibs_model.specs.Events.{Own, Repeat, Text, Order, Withdraw}
+use Rattle.fibs_model.specs.Crossings.{line_crossed, line_crossings, crossings_of, crossings_in, crossings_from, crossings, CrossingsJoin}
+use Rattle.fibs_model.specs.Events.{Event, Open, Click, Plain, Deliver, Lose, Serve, Own, Repeat, Text, Order, Withdraw}
 use Rattle.fibs_model.specs.LinksOf.{LinkValue, link_of, seen, link_at}
 use Rattle.fibs_model.specs.Runs.{after_all, world_after}
 use Rattle.fibs_model.specs.Wires.{next_line}

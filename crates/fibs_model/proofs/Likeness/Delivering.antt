@@ -1,7 +1,5 @@
 -- Bytes are delivered to the client.
-use Rattle.std.proofs.Common.{◌≡◌, ◌≤◌, ◌<◌, ◌+◌, ◌-◌, ℕ, zero, suc, inl, inr, List, [], ◌∷◌}
-use Rattle.std.proofs.Common.{◌++◌}
-use Rattle.std.proofs.Common.{length, take, drop, get_or, refl, sym, ap, subst, ◌∙◌, arith}
+use Rattle.std.proofs.Common.{◌≡◌, ◌≤◌, ◌<◌, ◌+◌, ◌-◌, ℕ, zero, suc, inl, inr, List, [], ◌∷◌, ◌++◌, length, take, drop, get_or, refl, sym, ap, subst, ◌∙◌, arith}
 use Rattle.std.specs.Prelude.{slice_set}
 use Rattle.std.proofs.lemmas.List.{append_cancel_left}
 use Rattle.std.proofs.lemmas.Bool.Decides.{eqb_tells}
@@ -17,7 +15,7 @@ use Rattle.fibs_model.specs.Talks.{Steps}
 use Rattle.fibs_model.specs.Events.{Deliver}
 use Rattle.fibs_model.specs.HearingOf.{HearsPiece, HearsNext, IsTalking, RoomForPiece, RoomForNext}
 use Rattle.fibs_model.specs.LinksOf.{LinkValue, kept_of, link_of, seen, link_at, set_link}
-use Rattle.fibs_model.specs.Wires.{Link}
+use Rattle.fibs_model.specs.Wires.{Link, more_asked, delivered}
 use Rattle.fibs_model.specs.WireLinks as value
 use Rattle.fibs_model.specs.World.{World, after, linked, talk_of}
 use Rattle.fibs_model.specs.WorldOf.{WorldValue, StandsFor, Goes, May}
@@ -31,7 +29,6 @@ use Rattle.fibs_model.proofs.wires.Boards.{boards}
 use Rattle.fibs_model.proofs.Likeness.Hearing.{ends}
 use Rattle.fibs_model.proofs.Likeness.Events.{current_known, client_after, sound_after}
 use Rattle.fibs_model.proofs.Likeness.Links.{links_linked, length_set_link, link_set, link_was, value_path}
-use Rattle.fibs_model.specs.Wires.{more_asked, delivered}
 
 -- the wires after bytes were delivered: those of the open connection have the client's commands too
 heard_links : (login : List ℕ) (w : World) (n : ℕ) (d : ℕ)

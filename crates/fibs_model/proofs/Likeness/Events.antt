@@ -1,6 +1,5 @@
 -- What each event has of the machine's world, to which the program's corresponds.
-use Rattle.std.proofs.Common.{◌≡◌, ◌≤◌, ℕ, List, [], ◌∷◌, ◌++◌, Some, None, length, map, sym, ap, subst, inl, inr, ◌∙◌}
-use Rattle.std.proofs.Common.{arith}
+use Rattle.std.proofs.Common.{◌≡◌, ◌≤◌, ℕ, List, [], ◌∷◌, ◌++◌, Some, None, length, map, sym, ap, subst, inl, inr, ◌∙◌, arith}
 use Rattle.std.proofs.lemmas.List.{map_push}
 use Rattle.fibs_session.specs.History.Machine.{InputValue}
 use Rattle.fibs_session.specs.Calls.ClientLaws.{ServersEntriesAreSilent}

@@ -1,8 +1,5 @@
 -- What the client hears, line by line.
-use Rattle.std.proofs.Common.{◌≡◌, ◌≤◌, ◌<◌, ◌+◌, ◌-◌, ◌*◌, ℕ, Bool, true, false, not, List, [], ◌∷◌, ◌++◌, Option}
-use Rattle.std.proofs.Common.{Some}
-use Rattle.std.proofs.Common.{None, length, take, drop, cond, if◌then◌else◌, refl, sym, ap, subst, ◌∙◌, arith}
-use Rattle.std.proofs.Common.{append-nil, append_assoc}
+use Rattle.std.proofs.Common.{◌≡◌, ◌≤◌, ◌<◌, ◌+◌, ◌-◌, ◌*◌, ℕ, Bool, true, false, not, List, [], ◌∷◌, ◌++◌, Option, Some, None, length, take, drop, cond, if◌then◌else◌, refl, sym, ap, subst, ◌∙◌, arith, append-nil, append_assoc}
 use Rattle.std.specs.Prelude.{option_map}
 use Rattle.std.specs.List.{count_by}
 use Rattle.std.proofs.Math.Seq.{drop-append_seam}
@@ -18,11 +15,9 @@ use Rattle.fibs_session.specs.Calls.SessionOf.{TakenValue}
 use Rattle.fibs_session.specs.Calls.Standing.{ClientValue, StandsAfter}
 use Rattle.fibs_session.specs.History.Hearing.{heard, nothing_heard, line_reading}
 use Rattle.fibs_session.specs.History.Log.{Entry}
-use Rattle.fibs_session.specs.History.Machine.{Talk, Outcome, Piece, step, is_online, stays, noted, with_bytes, gained}
-use Rattle.fibs_session.specs.History.Machine.{hears_all, heard_by, on_wire, wire_of, ordered_now}
+use Rattle.fibs_session.specs.History.Machine.{Talk, Outcome, Piece, step, is_online, stays, noted, with_bytes, gained, hears_all, heard_by, on_wire, wire_of, ordered_now}
 use Rattle.fibs_session.specs.History.MachineLaws.{PiecesJoin, EmptyPieceIsNothing}
-use Rattle.fibs_session.specs.History.Owing.{owed_on, owed, entries_owed, lines_in}
-use Rattle.fibs_session.specs.History.Owing.{PiecesTakeFromWhatIsOwed, PiecesTakeFromTheEntriesOwed}
+use Rattle.fibs_session.specs.History.Owing.{owed_on, owed, entries_owed, lines_in, PiecesTakeFromWhatIsOwed, PiecesTakeFromTheEntriesOwed}
 use Rattle.fibs_session.specs.History.Words.{open_now}
 use Rattle.fibs_model.specs.EntryOf.{roll_entries}
 use Rattle.fibs_model.specs.HearingOf.{HearsPiece, IsTalking, RoomForLine, RoomForPiece}

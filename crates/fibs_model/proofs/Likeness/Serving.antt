@@ -1,6 +1,5 @@
 -- The server takes a line, and answers it.
-use Rattle.std.proofs.Common.{◌≡◌, ◌≤◌, ℕ, List, [], ◌∷◌, ◌++◌, Some, length, if◌then◌else◌, refl, sym, ap, subst, ◌∙◌}
-use Rattle.std.proofs.Common.{arith, append-nil, map}
+use Rattle.std.proofs.Common.{◌≡◌, ◌≤◌, ℕ, List, [], ◌∷◌, ◌++◌, Some, length, if◌then◌else◌, refl, sym, ap, subst, ◌∙◌, arith, append-nil, map}
 use Rattle.fibs_fields.specs.Board.{BoardFields, spelling}
 use Rattle.fibs_session.specs.History.Log as L
 use Rattle.fibs_session.specs.History.Log.{Entry}
@@ -8,13 +7,12 @@ use Rattle.fibs_session.specs.History.Words.{is_empty, open_now}
 use Rattle.fibs_session.specs.History.Machine.{on_wire}
 use Rattle.fibs_session.specs.Calls.ClientLaws.{ServersEntriesAreSilent}
 use Rattle.fibs_session.specs.Calls.Standing.{StandsAfter}
-use Rattle.fibs_model.specs.Server.{ServerValue}
+use Rattle.fibs_model.specs.Server.{ServerValue, Served, Stale, LoggedIn, Took, Undone, Answered}
 use Rattle.fibs_model.specs.Calls.{send_links, TakesNext}
 use Rattle.fibs_model.specs.EntryOf.{entry_of}
 use Rattle.fibs_model.specs.declared.entry.Entry as C
 use Rattle.fibs_model.specs.Events.{Serve}
 use Rattle.fibs_model.specs.LinksOf.{LinkValue, kept_of, link_at}
-use Rattle.fibs_model.specs.Server.{Served, Stale, LoggedIn, Took, Undone, Answered}
 use Rattle.fibs_model.specs.ServerOf.{after_line, served_entries, is_answered}
 use Rattle.fibs_model.specs.Wires as whole
 use Rattle.fibs_model.specs.Wires.{next_line}

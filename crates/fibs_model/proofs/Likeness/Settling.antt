@@ -1,7 +1,5 @@
 -- The way of a world to rest.
-use Rattle.std.proofs.Common.{◌≡◌, ℕ, ◌+◌, ◌<◌, ◌≤◌, List, [], ◌∷◌, ◌++◌, Option, Some, None, length, refl, sym, ◌∙◌}
-use Rattle.std.proofs.Common.{ap, subst, arith, append-nil, append_assoc, length-append, Bool, true, false, not, ◌&&◌}
-use Rattle.std.proofs.Common.{zero, suc, nat_eq, nat_lt, nat_le, if◌then◌else◌, inl, inr}
+use Rattle.std.proofs.Common.{◌≡◌, ℕ, ◌+◌, ◌<◌, ◌≤◌, List, [], ◌∷◌, ◌++◌, Option, Some, None, length, refl, sym, ◌∙◌, ap, subst, arith, append-nil, append_assoc, length-append, Bool, true, false, not, ◌&&◌, zero, suc, nat_eq, nat_lt, nat_le, if◌then◌else◌, inl, inr}
 use Rattle.std.proofs.lemmas.Bool.Decides.{eqb_tells, nat_tests}
 use Rattle.fibs_fields.specs.Board.{BoardFields}
 use Rattle.fibs_position.specs.BoardEffect.{IsDie, is_die}

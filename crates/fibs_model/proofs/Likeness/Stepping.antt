@@ -1,14 +1,12 @@
 -- One event after others.
-use Rattle.std.proofs.Common.{◌≡◌, ℕ, Bool, true, false, not, ◌&&◌, ◌||◌, List, [], ◌∷◌, ◌++◌, Option, Some, None}
-use Rattle.std.proofs.Common.{nat_eq, nat_lt, if◌then◌else◌, is_some, refl, sym, subst, append-nil}
+use Rattle.std.proofs.Common.{◌≡◌, ℕ, Bool, true, false, not, ◌&&◌, ◌||◌, List, [], ◌∷◌, ◌++◌, Option, Some, None, nat_eq, nat_lt, if◌then◌else◌, is_some, refl, sym, subst, append-nil}
 use Rattle.fibs_fields.specs.Board.{BoardFields}
 use Rattle.fibs_position.specs.GoodBoard.{good}
 use Rattle.fibs_session.specs.History.Words.{open_now}
 use Rattle.fibs_commands.specs.Logins.{login_text}
 use Rattle.fibs_session.specs.History.Machine.{on_wire}
 use Rattle.fibs_lines.specs.Lines.{lines_of}
-use Rattle.fibs_model.specs.Events.{Event, Open, Click, Plain, Deliver, Lose, Serve}
-use Rattle.fibs_model.specs.Events.{Own, Repeat, Text, Order, Withdraw}
+use Rattle.fibs_model.specs.Events.{Event, Open, Click, Plain, Deliver, Lose, Serve, Own, Repeat, Text, Order, Withdraw}
 use Rattle.fibs_model.specs.Refusals.{refusal, is_board_text}
 use Rattle.fibs_model.specs.Runs.{AllAccepted, MayBe, after_all, world_after}
 use Rattle.fibs_position.specs.BoardEffect.{is_die}
@@ -18,10 +16,7 @@ use Rattle.fibs_model.specs.World.{World, after, start}
 use Rattle.fibs_model.specs.WorldCalls.{WorldStandsAfter, machine_after, Agrees}
 use Rattle.fibs_model.specs.WorldOf.{WorldValue, StandsFor, Goes}
 use Rattle.fibs_model.specs.declared.machine.refusal.WorldRefusal.{WorldRefusal}
-use Rattle.fibs_model.specs.declared.machine.refusal.WorldRefusal.TheVariants.{Memory, AlreadyOpen, NotOpen}
-use Rattle.fibs_model.specs.declared.machine.refusal.WorldRefusal.TheVariants.{NoSuchConnection}
-use Rattle.fibs_model.specs.declared.machine.refusal.WorldRefusal.TheVariants.{NothingToServe, UserDecides, BoardAsText}
-use Rattle.fibs_model.specs.declared.machine.refusal.WorldRefusal.TheVariants.{BadBoard, BadDice}
+use Rattle.fibs_model.specs.declared.machine.refusal.WorldRefusal.TheVariants.{Memory, AlreadyOpen, NotOpen, NoSuchConnection, NothingToServe, UserDecides, BoardAsText, BadBoard, BadDice}
 
 -- The table of refusals does not say that memory ran out.
 

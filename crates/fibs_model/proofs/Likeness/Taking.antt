@@ -1,6 +1,5 @@
 -- The server takes a line from a wire.
-use Rattle.std.proofs.Common.{◌≡◌, ◌≤◌, ◌<◌, ◌+◌, ◌-◌, ℕ, List, Option, Some, length, take, drop, get_or, sym, ap}
-use Rattle.std.proofs.Common.{subst, ◌∙◌}
+use Rattle.std.proofs.Common.{◌≡◌, ◌≤◌, ◌<◌, ◌+◌, ◌-◌, ℕ, List, Option, Some, length, take, drop, get_or, sym, ap, subst, ◌∙◌}
 use Rattle.std.specs.Prelude.{slice_set, option_map}
 use Rattle.fibs_model.specs.Server.{ServerValue}
 use Rattle.fibs_model.specs.Calls.{TakesLine, TakesNext}

@@ -1,6 +1,5 @@
 -- The joint statement is kept if a decision is sent on the board shown last.
-use Rattle.std.proofs.Common.{◌≡◌, ℕ, ◌<◌, true, false, List, [], ◌∷◌, ◌++◌, Option, Some, None, nat_eq, flat_map, refl}
-use Rattle.std.proofs.Common.{sym, ◌∙◌, ap, subst, inl, inr, append-nil, append_assoc, true≢false}
+use Rattle.std.proofs.Common.{◌≡◌, ℕ, ◌<◌, true, false, List, [], ◌∷◌, ◌++◌, Option, Some, None, nat_eq, flat_map, refl, sym, ◌∙◌, ap, subst, inl, inr, append-nil, append_assoc, true≢false}
 use Rattle.fibs_fields.specs.Board.{BoardFields as Board}
 use Rattle.fibs_position.specs.DecisionValue.{DecisionValue as Decision}
 use Rattle.fibs_position.specs.GamePart.{same_game}
@@ -8,21 +7,17 @@ use Rattle.fibs_position.specs.GoodBoard.{good as is_good}
 use Rattle.fibs_session.specs.History.Log.{Entry, Sent}
 use Rattle.fibs_session.specs.History.Allows.{allows}
 use Rattle.fibs_session.specs.History.Machine.{on_wire}
-use Rattle.fibs_session.specs.History.Words.{Ask, is_empty, last, open_from, open_now, shown, sent, took, is_spent}
-use Rattle.fibs_session.specs.History.Words.{shown_by, sent_by, took_by}
+use Rattle.fibs_session.specs.History.Words.{Ask, is_empty, last, open_from, open_now, shown, sent, took, is_spent, shown_by, sent_by, took_by}
 use Rattle.fibs_model.specs.Server.{command}
 use Rattle.fibs_model.specs.Wires.{Link, more_asked}
 use Rattle.fibs_model.specs.World.{World, noted, asks}
 use Rattle.fibs_model.proofs.Lawful.{Lawful}
-use Rattle.fibs_session.proofs.History.Lists.{to_list, same_number, other_number, one_of_false, one_of_true}
-use Rattle.fibs_session.proofs.History.Lists.{before_last}
-use Rattle.fibs_session.proofs.History.Lists.{map_more, map_no_more}
+use Rattle.fibs_session.proofs.History.Lists.{to_list, same_number, other_number, one_of_false, one_of_true, before_last, map_more, map_no_more}
 use Rattle.fibs_session.proofs.History.Moving.{has_moved_on, moved_sent}
 use Rattle.fibs_session.proofs.History.Past.{open_append, spent_sent}
 use Rattle.fibs_model.proofs.wires.Boards.{waiting}
 use Rattle.fibs_model.proofs.wires.Ways.{OnWay, way_decision}
-use Rattle.fibs_model.proofs.joint.Joint.{log_of, Calm, Free, Live, Current, Joint, current, same_log, linked_same}
-use Rattle.fibs_model.proofs.joint.Joint.{linked_other, joint_current}
+use Rattle.fibs_model.proofs.joint.Joint.{log_of, Calm, Free, Live, Current, Joint, current, same_log, linked_same, linked_other, joint_current}
 use Rattle.fibs_model.proofs.joint.Sending.{same_test}
 
 -- entries that are none of Shown, Sent and Took, and leave open what is open

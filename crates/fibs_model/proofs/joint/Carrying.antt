@@ -1,6 +1,5 @@
 -- The bytes on the wires to the client.
-use Rattle.std.proofs.Common.{◌≡◌, ℕ, Bool, true, false, List, [], ◌++◌, take, drop}
-use Rattle.std.proofs.Common.{refl, sym, ◌∙◌, ap, append-nil, append_assoc, true≢false}
+use Rattle.std.proofs.Common.{◌≡◌, ℕ, Bool, true, false, List, [], ◌++◌, take, drop, refl, sym, ◌∙◌, ap, append-nil, append_assoc, true≢false}
 use Rattle.std.proofs.lemmas.List.{take-append-drop}
 use Rattle.fibs_model.specs.Joint.{Carried}
 use Rattle.fibs_model.specs.Wires.{Link}

@@ -1,7 +1,5 @@
 -- The joint statement is kept if the client hears lines.
-use Rattle.std.proofs.Common.{◌≡◌, ℕ, ◌<◌, Bool, true, false, ◌&&◌, List, [], ◌∷◌, ◌++◌, Option, Some, None, nat_eq}
-use Rattle.std.proofs.Common.{take, drop, refl, sym, ◌∙◌, ap, subst, inl, inr, ◌⊎◌, append-nil, append_assoc}
-use Rattle.std.proofs.Common.{true≢false, arith}
+use Rattle.std.proofs.Common.{◌≡◌, ℕ, ◌<◌, Bool, true, false, ◌&&◌, List, [], ◌∷◌, ◌++◌, Option, Some, None, nat_eq, take, drop, refl, sym, ◌∙◌, ap, subst, inl, inr, ◌⊎◌, append-nil, append_assoc, true≢false, arith}
 use Rattle.std.proofs.Math.Seq.{take-nil, drop-nil}
 use Rattle.std.proofs.lemmas.Option.{same_Some}
 use Rattle.std.proofs.lemmas.Bool.{cases_Bool}
@@ -9,8 +7,7 @@ use Rattle.fibs_fields.specs.Board.{BoardFields as Board}
 use Rattle.fibs_position.specs.DecisionValue.{roll}
 use Rattle.fibs_session.specs.History.Log.{Welcomed, Informed, Shown, Sent}
 use Rattle.fibs_session.specs.History.Orders.{is_due}
-use Rattle.fibs_session.specs.History.Words.{Ask, one_if, is_empty, last, each, open_now, shown, sent, took, welcomed}
-use Rattle.fibs_session.specs.History.Words.{informed, is_spent}
+use Rattle.fibs_session.specs.History.Words.{Ask, one_if, is_empty, last, each, open_now, shown, sent, took, welcomed, informed, is_spent}
 use Rattle.fibs_model.specs.Wires.{Link, delivered}
 use Rattle.fibs_model.specs.Server.{command}
 use Rattle.fibs_model.specs.World.{does_heard, World, noted, linked, asks, hears, hears_all}
@@ -19,19 +16,15 @@ use Rattle.fibs_model.proofs.Lawful.{Lawful, AllQuiet}
 use Rattle.std.specs.Prelude.{if◌then◌else◌}
 use Rattle.fibs_messages.specs.Line.{ReadingValue, numbered_line, board_line, text_line, malformed_line}
 use Rattle.fibs_commands.specs.FirstCommands.{style_text}
-use Rattle.fibs_session.specs.History.Hearing.{initial_commands, Heard, nothing_heard, flags_of, shows_board}
-use Rattle.fibs_session.specs.History.Hearing.{line_reading}
+use Rattle.fibs_session.specs.History.Hearing.{initial_commands, Heard, nothing_heard, flags_of, shows_board, line_reading}
 use Rattle.fibs_lines.specs.Lines.{ReadLine as Line}
 use Rattle.fibs_session.specs.History.Machine.{gained}
-use Rattle.fibs_session.proofs.History.Lists.{other_number, and_left, and_right, and_both, one_of_false, last_snoc}
-use Rattle.fibs_session.proofs.History.Lists.{map_no_more}
-use Rattle.fibs_session.proofs.History.Lists.{to_list}
+use Rattle.fibs_session.proofs.History.Lists.{other_number, and_left, and_right, and_both, one_of_false, last_snoc, map_no_more, to_list}
 use Rattle.fibs_session.proofs.History.Past.{open_append, shown_more, spent_first, spent_same, spent_other}
 use Rattle.fibs_model.proofs.log.Due.{due_rolls}
 use Rattle.fibs_model.proofs.joint.Asked.{joint_asked, no_entries}
 use Rattle.fibs_model.proofs.wires.Boards.{waiting, boards, board_of, boards_split, whole_split, gained_none}
-use Rattle.fibs_model.proofs.joint.Joint.{log_of, Calm, Free, Done, Live, Held, Joint, current, current_with}
-use Rattle.fibs_model.proofs.joint.Joint.{ahead_with, same_log, joint_current, joint_rewired, joint_rewired_ahead}
+use Rattle.fibs_model.proofs.joint.Joint.{log_of, Calm, Free, Done, Live, Held, Joint, current, current_with, ahead_with, same_log, joint_current, joint_rewired, joint_rewired_ahead}
 use Rattle.fibs_model.proofs.joint.Sending.{joint_noted, joint_asks, which, same_test, if_fact}
 use Rattle.fibs_position.specs.GamePart.{same_game}
 use Rattle.fibs_position.specs.GoodBoard.{good as is_good}

@@ -1,7 +1,5 @@
 -- Each event keeps the joint statement.
-use Rattle.std.proofs.Common.{◌≡◌, ℕ, ◌<◌, ◌≤◌, Bool, true, false, not, ◌&&◌, ◌||◌, List, [], ◌∷◌, ◌++◌, Option, Some}
-use Rattle.std.proofs.Common.{nat_eq, nat_lt, refl, sym, zero, suc, subst, inl, inr, true≢false, arith, if◌then◌else◌}
-use Rattle.std.proofs.Common.{None, is_some, ◌∙◌, append-nil, append_assoc}
+use Rattle.std.proofs.Common.{◌≡◌, ℕ, ◌<◌, ◌≤◌, Bool, true, false, not, ◌&&◌, ◌||◌, List, [], ◌∷◌, ◌++◌, Option, Some, nat_eq, nat_lt, refl, sym, zero, suc, subst, inl, inr, true≢false, arith, if◌then◌else◌, None, is_some, ◌∙◌, append-nil, append_assoc}
 use Rattle.std.proofs.lemmas.Bool.{eqb-true, ltb-false, not-false, or_parts}
 use Rattle.fibs_fields.specs.Board.{BoardFields as Board}
 use Rattle.fibs_session.specs.History.Words.{open_now}
@@ -18,8 +16,7 @@ use Rattle.fibs_model.specs.Runs.{AllAccepted, after_all}
 use Rattle.fibs_model.specs.Wires.{next_line}
 use Rattle.fibs_position.specs.BoardEffect.{is_die}
 use Rattle.fibs_model.specs.Server.{user_decides}
-use Rattle.fibs_model.specs.Events.{Event, Open, Click, Plain, Deliver, Lose, Serve}
-use Rattle.fibs_model.specs.Events.{Own, Repeat, Text, Order, Withdraw}
+use Rattle.fibs_model.specs.Events.{Event, Open, Click, Plain, Deliver, Lose, Serve, Own, Repeat, Text, Order, Withdraw}
 use Rattle.fibs_model.specs.World.{sends_plain, notes_unless, talk_of, World, after, serves, start}
 use Rattle.fibs_model.specs.declared.machine.refusal.WorldRefusal.{WorldRefusal}
 use Rattle.fibs_model.specs.declared.machine.refusal.WorldRefusal.TheVariants.{AlreadyOpen, NotOpen}

@@ -1,11 +1,9 @@
 -- The joint statement that each event keeps.
-use Rattle.std.proofs.Common.{◌≡◌, ℕ, ◌<◌, ◌≤◌, Bool, true, false, List, [], ◌∷◌, ◌++◌, Option, Some, None, nat_eq}
-use Rattle.std.proofs.Common.{refl, sym, ◌∙◌, ap, subst, inl, inr, ◌⊎◌, arith}
+use Rattle.std.proofs.Common.{◌≡◌, ℕ, ◌<◌, ◌≤◌, Bool, true, false, List, [], ◌∷◌, ◌++◌, Option, Some, None, nat_eq, refl, sym, ◌∙◌, ap, subst, inl, inr, ◌⊎◌, arith}
 use Rattle.std.proofs.lemmas.Bool.Decides.{eqb_tells}
 use Rattle.fibs_fields.specs.Board.{BoardFields as Board}
 use Rattle.fibs_session.specs.History.Log.{Entry}
-use Rattle.fibs_session.specs.History.Words.{Ask, is_empty, last, each, open_now, shown_by, sent_by, took_by, shown}
-use Rattle.fibs_session.specs.History.Words.{sent, took, is_spent}
+use Rattle.fibs_session.specs.History.Words.{Ask, is_empty, last, each, open_now, shown_by, sent_by, took_by, shown, sent, took, is_spent}
 use Rattle.fibs_model.specs.Wires.{Link}
 use Rattle.fibs_model.specs.Server.{user_decides}
 use Rattle.fibs_model.specs.World.{World, linked}

@@ -1,7 +1,5 @@
 -- The joint statement is kept if commands and lines go on wires.
-use Rattle.std.proofs.Common.{◌≡◌, ℕ, ◌<◌, ◌≤◌, Bool, true, false, not, ◌&&◌, List, [], ◌∷◌, ◌++◌, Option, Some, None}
-use Rattle.std.proofs.Common.{nat_eq, flat_map, refl, sym, ◌∙◌, zero, suc, ap, subst, inl, inr, ◌⊎◌, append-nil}
-use Rattle.std.proofs.Common.{append_assoc, true≢false, arith, if◌then◌else◌}
+use Rattle.std.proofs.Common.{◌≡◌, ℕ, ◌<◌, ◌≤◌, Bool, true, false, not, ◌&&◌, List, [], ◌∷◌, ◌++◌, Option, Some, None, nat_eq, flat_map, refl, sym, ◌∙◌, zero, suc, ap, subst, inl, inr, ◌⊎◌, append-nil, append_assoc, true≢false, arith, if◌then◌else◌}
 use Rattle.std.proofs.lemmas.Bool.Decides.{eqb_tells}
 use Rattle.std.proofs.lemmas.Bool.{eqb-true}
 use Rattle.fibs_fields.specs.Board.{BoardFields as Board, spelling}
@@ -17,9 +15,7 @@ use Rattle.fibs_session.proofs.History.Lists.{same_number, and_left, and_right, 
 use Rattle.fibs_session.proofs.History.Past.{open_append}
 use Rattle.fibs_model.proofs.wires.Ways.{OnWay, way_more}
 use Rattle.fibs_model.proofs.wires.Boards.{waiting, boards, boards_more, whole_more, printed}
-use Rattle.fibs_model.proofs.joint.Joint.{Logged, log_of, AllAre, Calm, Live, Held, Joint, current, current_with}
-use Rattle.fibs_model.proofs.joint.Joint.{at_other, same_log, joint_current, joint_rewired, joint_rewired_ahead}
-use Rattle.fibs_model.proofs.joint.Joint.{ahead_with, joint_same}
+use Rattle.fibs_model.proofs.joint.Joint.{Logged, log_of, AllAre, Calm, Live, Held, Joint, current, current_with, at_other, same_log, joint_current, joint_rewired, joint_rewired_ahead, ahead_with, joint_same}
 use Rattle.fibs_position.specs.GoodBoard.{good as is_good}
 
 -- entries that are none of Shown, Sent and Took, and leave open what is open

@@ -1,7 +1,5 @@
 -- The four facts of the joint statement hold after every list of events.
-use Rattle.std.proofs.Common.{◌≡◌, ◌⊎◌, ℕ, ◌+◌, ◌<◌, ◌≤◌, Bool, true, false, not, ◌&&◌, List, [], ◌∷◌, ◌++◌, Option}
-use Rattle.std.proofs.Common.{Some, None, nat_eq, take, drop, flat_map, refl, sym, ◌∙◌, ap, subst, inl, inr, append-nil}
-use Rattle.std.proofs.Common.{append_assoc, true≢false, arith, if◌then◌else◌}
+use Rattle.std.proofs.Common.{◌≡◌, ◌⊎◌, ℕ, ◌+◌, ◌<◌, ◌≤◌, Bool, true, false, not, ◌&&◌, List, [], ◌∷◌, ◌++◌, Option, Some, None, nat_eq, take, drop, flat_map, refl, sym, ◌∙◌, ap, subst, inl, inr, append-nil, append_assoc, true≢false, arith, if◌then◌else◌}
 use Rattle.std.proofs.lemmas.Bool.{cases_lt, eqb-true}
 use Rattle.std.proofs.lemmas.Bool.Decides.{eqb_tells}
 use Rattle.fibs_fields.specs.Board.{BoardFields as Board, spelling}
@@ -11,8 +9,7 @@ use Rattle.fibs_session.specs.History.Log.{Entry, Took, Undone, Lost}
 use Rattle.fibs_session.specs.History.Log as L
 use Rattle.fibs_session.specs.History.Machine.{on_wire}
 use Rattle.fibs_session.specs.History.Words.{Ask, is_empty, one_if, open_now, sent, took}
-use Rattle.fibs_model.specs.Acts.{Act, Shows, Says, Serves, put_by, sending}
-use Rattle.fibs_model.specs.Acts.{acts_of, acts_at_line, acts_on, acts_from}
+use Rattle.fibs_model.specs.Acts.{Act, Shows, Says, Serves, put_by, sending, acts_of, acts_at_line, acts_on, acts_from}
 use Rattle.fibs_model.specs.declared.machine.refusal.WorldRefusal.TheVariants.{AlreadyOpen, NotOpen}
 use Rattle.fibs_model.specs.Events.{Event, Open, Deliver, Lose, Serve, Own, Repeat, Text}
 use Rattle.fibs_model.specs.Headline.{NoneUndone}
@@ -30,8 +27,7 @@ use Rattle.fibs_model.proofs.Lawful.{Lawful, IsQuiet}
 use Rattle.fibs_model.proofs.Final.{kept, told_start}
 use Rattle.fibs_session.proofs.History.Lists.{other_number, to_list}
 use Rattle.fibs_session.proofs.History.Past.{open_append}
-use Rattle.fibs_model.proofs.joint.Acting.{Kept, only, only_none, kept_is, kept_quiet, kept_does, kept_sends}
-use Rattle.fibs_model.proofs.joint.Acting.{kept_serves, kept_login}
+use Rattle.fibs_model.proofs.joint.Acting.{Kept, only, only_none, kept_is, kept_quiet, kept_does, kept_sends, kept_serves, kept_login}
 use Rattle.fibs_model.proofs.joint.Carrying.{carried_is, carried_delivered, carried_lost, carried_none}
 use Rattle.fibs_model.proofs.joint.EachEvent.{served, over_events, joint_start, not_refused, is_open}
 use Rattle.fibs_model.proofs.joint.Joint.{Joint, current, linked_each, linked_keeps}

@@ -1,13 +1,10 @@
 -- The joint statement is kept if a connection is opened, lost or logged in, and if the server serves.
-use Rattle.std.proofs.Common.{◌≡◌, ℕ, ◌+◌, ◌<◌, ◌≤◌, Bool, true, false, not, ◌&&◌, List, [], ◌∷◌, ◌++◌, Option, Some}
-use Rattle.std.proofs.Common.{None, nat_eq, flat_map, refl, sym, ◌∙◌, ap, subst, inl, inr, ◌⊎◌, append-nil}
-use Rattle.std.proofs.Common.{true≢false, arith}
+use Rattle.std.proofs.Common.{◌≡◌, ℕ, ◌+◌, ◌<◌, ◌≤◌, Bool, true, false, not, ◌&&◌, List, [], ◌∷◌, ◌++◌, Option, Some, None, nat_eq, flat_map, refl, sym, ◌∙◌, ap, subst, inl, inr, ◌⊎◌, append-nil, true≢false, arith}
 use Rattle.std.proofs.lemmas.Bool.Decides.{eqb_tells}
 use Rattle.std.proofs.lemmas.Bool.{eqb-true, le-ltb}
 use Rattle.fibs_fields.specs.Board.{BoardFields as Board, spelling}
 use Rattle.fibs_session.specs.History.Log.{Entry, Opened, LoggedIn, Took, Lost}
-use Rattle.fibs_session.specs.History.Words.{Ask, is_empty, last, each, open_now, shown, sent, took, sent_by, took_by}
-use Rattle.fibs_session.specs.History.Words.{is_spent}
+use Rattle.fibs_session.specs.History.Words.{Ask, is_empty, last, each, open_now, shown, sent, took, sent_by, took_by, is_spent}
 use Rattle.fibs_model.specs.Wires.{next_line, Link, more_asked, taken, cut_off}
 use Rattle.fibs_position.specs.BoardEffect.{is_die}
 use Rattle.fibs_model.specs.Server.{Stale, LoggedIn as LoggedInNow, decision_in, command}
@@ -16,15 +13,11 @@ use Rattle.fibs_model.proofs.Answering.{takes_line, obeys, carries_out}
 use Rattle.fibs_model.proofs.Lawful.{Lawful, IsQuiet}
 use Rattle.fibs_session.specs.History.Machine.{on_wire, gained}
 use Rattle.std.specs.Prelude.{if◌then◌else◌}
-use Rattle.fibs_session.proofs.History.Lists.{same_number, other_number, and_both, one_of_false, one_of_true}
-use Rattle.fibs_session.proofs.History.Lists.{map_no_more}
-use Rattle.fibs_session.proofs.History.Lists.{map_more, to_list}
+use Rattle.fibs_session.proofs.History.Lists.{same_number, other_number, and_both, one_of_false, one_of_true, map_no_more, map_more, to_list}
 use Rattle.fibs_session.proofs.History.Past.{open_append, spent_quiet}
 use Rattle.fibs_model.proofs.wires.Ways.{OnWay, way_none, way_more, way_lost, way_lose, way_serve}
 use Rattle.fibs_model.proofs.wires.Boards.{Whole, waiting, boards, gained_none, boards_more, whole_more, printed}
-use Rattle.fibs_model.proofs.joint.Joint.{Logged, log_of, AllAre, Calm, Live, Held, Current, Ahead, At, Joint}
-use Rattle.fibs_model.proofs.joint.Joint.{current, current_with, same_log, linked_same, linked_other, at_by}
-use Rattle.fibs_model.proofs.joint.Joint.{ahead_with, at_ahead, at_current, each_of, joint_current, joint_rewired}
+use Rattle.fibs_model.proofs.joint.Joint.{Logged, log_of, AllAre, Calm, Live, Held, Current, Ahead, At, Joint, current, current_with, same_log, linked_same, linked_other, at_by, ahead_with, at_ahead, at_current, each_of, joint_current, joint_rewired}
 use Rattle.fibs_model.proofs.joint.Sending.{joint_board, same_test, if_fact, not_left, with_line}
 use Rattle.fibs_session.specs.History.Allows.{allows}
 use Rattle.fibs_position.specs.GamePart.{same_game}

@@ -1,14 +1,12 @@
 -- Each decision sent comes directly after what calls for it, and what calls for one is directly followed by it.
-use Rattle.std.proofs.Common.{◌≡◌, ℕ, Bool, true, false, List, [], ◌∷◌, ◌++◌, Option, Some, None, nat_eq, refl}
-use Rattle.std.proofs.Common.{sym, ◌∙◌, ap, subst, append-nil, append_assoc}
+use Rattle.std.proofs.Common.{◌≡◌, ℕ, Bool, true, false, List, [], ◌∷◌, ◌++◌, Option, Some, None, nat_eq, refl, sym, ◌∙◌, ap, subst, append-nil, append_assoc}
 use Rattle.std.proofs.lemmas.Option.{same_Some}
 use Rattle.fibs_fields.specs.Board.{BoardFields as Board}
 use Rattle.fibs_position.specs.DecisionValue.{DecisionValue as Decision, roll}
 use Rattle.fibs_session.specs.History.Log.{Entry, Shown, Clicked, Sent}
 use Rattle.fibs_session.specs.History.Orders.{is_due}
 use Rattle.fibs_session.specs.History.Words.{open_now, last, shown, shown_by}
-use Rattle.fibs_model.specs.Headline.{Answers, its_click, its_order, AllAnswerTheirs, SentNext, AllClicksSent}
-use Rattle.fibs_model.specs.Headline.{AllOrdersSent, AllOnShown}
+use Rattle.fibs_model.specs.Headline.{Answers, its_click, its_order, AllAnswerTheirs, SentNext, AllClicksSent, AllOrdersSent, AllOnShown}
 use Rattle.fibs_session.proofs.History.Lists.{last_snoc, map_more, one_of_true, same_number}
 
 -- a decision to be sent, with its connection

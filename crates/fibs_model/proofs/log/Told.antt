@@ -1,7 +1,5 @@
 -- What the log keeps as it grows.
-use Rattle.std.proofs.Common.{◌≡◌, ℕ, ◌+◌, ◌<◌, ◌≤◌, Bool, true, false, List, [], ◌∷◌, ◌++◌, Some, None, nat_eq, length}
-use Rattle.std.proofs.Common.{get_or, slice_index, refl, sym, ◌∙◌, zero, suc, ap, subst, inl, inr}
-use Rattle.std.proofs.Common.{arith, if◌then◌else◌, length-append}
+use Rattle.std.proofs.Common.{◌≡◌, ℕ, ◌+◌, ◌<◌, ◌≤◌, Bool, true, false, List, [], ◌∷◌, ◌++◌, Some, None, nat_eq, length, get_or, slice_index, refl, sym, ◌∙◌, zero, suc, ap, subst, inl, inr, arith, if◌then◌else◌, length-append}
 use Rattle.std.proofs.Math.ListN.{get_or-append}
 use Rattle.std.proofs.Math.Seq.{get_or-append_seam}
 use Rattle.std.proofs.lemmas.Bool.Decides.{eqb_tells}
@@ -11,13 +9,11 @@ use Rattle.fibs_position.specs.DecisionValue.{DecisionValue as Decision, roll}
 use Rattle.fibs_session.specs.declared.histories.refusal.Refusal.{Refusal}
 use Rattle.fibs_session.specs.History.Log.{Entry, Shown, Clicked, Sent, Took, Undone}
 use Rattle.fibs_session.specs.History.Orders.{is_due}
-use Rattle.fibs_session.specs.History.Words.{Ask, one_if, last, shown, shown_by, open_now, sent, took, sent_by, took_by}
-use Rattle.fibs_session.specs.History.Words.{answer}
+use Rattle.fibs_session.specs.History.Words.{Ask, one_if, last, shown, shown_by, open_now, sent, took, sent_by, took_by, answer}
 use Rattle.fibs_model.specs.Headline.{NoneUndone, InOrder, places, is_sent, is_took}
 use Rattle.fibs_model.proofs.log.Called.{roll_if, Called, called_append}
 use Rattle.fibs_model.proofs.log.Fitting.{AllFit, fit_append}
-use Rattle.fibs_session.proofs.History.Lists.{last_snoc, same_number, other_number, map_no_more, map_more, one_of_true}
-use Rattle.fibs_session.proofs.History.Lists.{one_of_false}
+use Rattle.fibs_session.proofs.History.Lists.{last_snoc, same_number, other_number, map_no_more, map_more, one_of_true, one_of_false}
 use Rattle.fibs_session.specs.History.Allows.{allows}
 use Rattle.fibs_position.specs.GamePart.{same_game}
 use Rattle.fibs_position.specs.GoodBoard.{good as is_good}

@@ -1,10 +1,8 @@
 -- Whether a text with CR LF is a board text shows at the first line of the text, and else at the line that CR LF ends.
-use Rattle.std.proofs.Common.{◌≡◌, ℕ, true, false, List, [], ◌∷◌, ◌++◌, Option, Some, None, length, take, drop, refl}
-use Rattle.std.proofs.Common.{sym, ap, ◌∙◌, arith, is_some, append_assoc}
+use Rattle.std.proofs.Common.{◌≡◌, ℕ, true, false, List, [], ◌∷◌, ◌++◌, Option, Some, None, length, take, drop, refl, sym, ap, ◌∙◌, arith, is_some, append_assoc}
 use Rattle.std.proofs.lemmas.Bool.{false≢true}
 use Rattle.std.proofs.lemmas.List.{take_all, take-append-drop}
-use Rattle.fibs_lines.specs.Lines.{ReadLine, lines_of}
-use Rattle.fibs_lines.specs.Lines.{value_of}
+use Rattle.fibs_lines.specs.Lines.{ReadLine, lines_of, value_of}
 use Rattle.fibs_lines.specs.Feeding.{Feeds, lent_lines}
 use Rattle.fibs_lines.specs.StreamLaws.{EmptyStreamHasNoLine, LinesOnlyGrow, LineEndEndsALine}
 use Rattle.fibs_lines.specs.declared.line.Line.{Line}

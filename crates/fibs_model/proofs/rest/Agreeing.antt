@@ -1,7 +1,5 @@
 -- The boards shown on a connection are the first of those sent there; at rest the last of them is the server's board.
-use Rattle.std.proofs.Common.{◌≡◌, ◌⊎◌, ℕ, ◌+◌, ◌<◌, ◌≤◌, true, false, not, List, [], ◌∷◌, ◌++◌, Option, Some}
-use Rattle.std.proofs.Common.{None, nat_eq, take, refl, sym, ◌∙◌, ap, subst, inl, inr, append-nil}
-use Rattle.std.proofs.Common.{true≢false, arith, if◌then◌else◌}
+use Rattle.std.proofs.Common.{◌≡◌, ◌⊎◌, ℕ, ◌+◌, ◌<◌, ◌≤◌, true, false, not, List, [], ◌∷◌, ◌++◌, Option, Some, None, nat_eq, take, refl, sym, ◌∙◌, ap, subst, inl, inr, append-nil, true≢false, arith, if◌then◌else◌}
 use Rattle.std.proofs.lemmas.Bool.Decides.{eqb_tells}
 use Rattle.std.proofs.lemmas.List.Concat.{flat_map-append}
 use Rattle.std.proofs.lemmas.Option.{same_Some}
@@ -14,8 +12,7 @@ use Rattle.fibs_session.specs.History.Log.{Entry, Opened, Took, Undone, Lost}
 use Rattle.fibs_session.specs.History.Log as L
 use Rattle.fibs_session.specs.History.Machine.{gained, on_wire, wire_of}
 use Rattle.fibs_session.specs.History.Words.{is_empty, last, open_now, shown, shown_by, unconfirmed}
-use Rattle.fibs_model.specs.Acts.{Act, Shows, Says, Serves, put_by, sending, acts_of, acts_at_line, acts_at, acts_on}
-use Rattle.fibs_model.specs.Acts.{acts_from}
+use Rattle.fibs_model.specs.Acts.{Act, Shows, Says, Serves, put_by, sending, acts_of, acts_at_line, acts_at, acts_on, acts_from}
 use Rattle.fibs_model.specs.Agrees.{BoardsAgree, board_sent, boards_sent}
 use Rattle.fibs_model.specs.Events.{Event, Open, Deliver, Lose, Serve, Own, Repeat, Text}
 use Rattle.fibs_model.specs.Headline.{IsAtRest}
@@ -29,8 +26,7 @@ use Rattle.fibs_model.specs.World.{World, start, after, noted, linked, is_talkin
 use Rattle.fibs_model.proofs.Answering.{answered_at as answered}
 use Rattle.fibs_model.proofs.Lawful.{Lawful, IsQuiet}
 use Rattle.fibs_model.proofs.ClientActs.{Does, does, given, there_none}
-use Rattle.fibs_model.proofs.ServerActs.{Answers, answers_keep, answers_line, answers_served, servers_aside}
-use Rattle.fibs_model.proofs.ServerActs.{sends_board}
+use Rattle.fibs_model.proofs.ServerActs.{Answers, answers_keep, answers_line, answers_served, servers_aside, sends_board}
 use Rattle.fibs_model.proofs.Steps.{adds}
 use Rattle.fibs_session.proofs.History.Lists.{same_number, other_number, and_both, last_snoc, map_more, map_no_more}
 use Rattle.fibs_session.proofs.History.Past.{open_append}

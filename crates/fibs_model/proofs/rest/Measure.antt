@@ -1,8 +1,6 @@
 -- A measure of what is still on its way on a connection, or may still be called forth: each line that is served, and
 -- each delivery of all bytes, makes it smaller.
-use Rattle.std.proofs.Common.{◌≡◌, ◌⊎◌, ℕ, ◌+◌, ◌<◌, ◌≤◌, Bool, true, false, ◌&&◌, ◌||◌, List, [], ◌∷◌, ◌++◌, Option}
-use Rattle.std.proofs.Common.{Some, None, nat_eq, flat_map, length, refl, sym, ◌∙◌, ap, subst, inl, inr, append-nil}
-use Rattle.std.proofs.Common.{append_assoc, true≢false, arith, if◌then◌else◌, length-append}
+use Rattle.std.proofs.Common.{◌≡◌, ◌⊎◌, ℕ, ◌+◌, ◌<◌, ◌≤◌, Bool, true, false, ◌&&◌, ◌||◌, List, [], ◌∷◌, ◌++◌, Option, Some, None, nat_eq, flat_map, length, refl, sym, ◌∙◌, ap, subst, inl, inr, append-nil, append_assoc, true≢false, arith, if◌then◌else◌, length-append}
 use Rattle.std.proofs.lemmas.Bool.{or_left, or_right}
 use Rattle.std.proofs.lemmas.Option.{some_pair_parts}
 use Rattle.fibs_lines.specs.Lines.{ReadLine as Line}
@@ -15,14 +13,12 @@ use Rattle.fibs_position.specs.DecisionValue.{roll}
 use Rattle.fibs_position.specs.GamePart.{same_game}
 use Rattle.fibs_position.specs.GoodBoard.{good as is_good}
 use Rattle.fibs_position.specs.Phases.{phase_of}
-use Rattle.fibs_session.specs.History.Hearing.{Heard, nothing_heard, flags_of, line_reading, initial_commands}
-use Rattle.fibs_session.specs.History.Hearing.{shows_board}
+use Rattle.fibs_session.specs.History.Hearing.{Heard, nothing_heard, flags_of, line_reading, initial_commands, shows_board}
 use Rattle.fibs_session.specs.History.Log.{Entry, Flags, Welcomed, Informed, Shown, Sent, Took, Undone}
 use Rattle.fibs_session.specs.History.Log as L
 use Rattle.fibs_session.specs.History.Machine.{on_wire, wire_of}
 use Rattle.fibs_session.specs.History.Orders.{is_due, is_to_roll}
-use Rattle.fibs_session.specs.History.Words.{Ask, one_if, is_empty, last, open_now, shown, sent, sent_by, took, took_by}
-use Rattle.fibs_session.specs.History.Words.{is_spent, welcomed, welcomed_by, informed, informed_by}
+use Rattle.fibs_session.specs.History.Words.{Ask, one_if, is_empty, last, open_now, shown, sent, sent_by, took, took_by, is_spent, welcomed, welcomed_by, informed, informed_by}
 use Rattle.fibs_model.specs.Joint.{AreLines}
 use Rattle.fibs_model.specs.Server.{Served, user_decides}
 use Rattle.fibs_model.specs.Server as V
@@ -30,8 +26,7 @@ use Rattle.fibs_model.specs.Wires.{Link, more_asked, next_line}
 use Rattle.fibs_model.specs.World.{World, noted, linked, sends, does_heard, hears, hears_all, does_served}
 use Rattle.fibs_model.proofs.Lawful.{Lawful, NoReturn}
 use Rattle.fibs_model.proofs.ServerActs.{sends_board, sends_log, answers_keep, answers_served}
-use Rattle.fibs_session.proofs.History.Lists.{same_number, other_number, and_left, and_right, map_more, map_no_more}
-use Rattle.fibs_session.proofs.History.Lists.{to_list}
+use Rattle.fibs_session.proofs.History.Lists.{same_number, other_number, and_left, and_right, map_more, map_no_more, to_list}
 use Rattle.fibs_session.proofs.History.Past.{open_append}
 use Rattle.fibs_session.proofs.History.Words.{own}
 use Rattle.fibs_model.proofs.log.Due.{due_rolls}

@@ -1,7 +1,5 @@
 -- A world in which a connection is open can come to rest.
-use Rattle.std.proofs.Common.{◌≡◌, ◌⊎◌, ℕ, zero, suc, ◌+◌, ◌<◌, ◌≤◌, Bool, true, false, not, ◌&&◌, ◌||◌, List, [], ◌∷◌}
-use Rattle.std.proofs.Common.{◌++◌, Option, Some, None, nat_eq, nat_lt, nat_le, take, flat_map, length, refl, sym}
-use Rattle.std.proofs.Common.{◌∙◌, ap, subst, inl, inr, append-nil, true≢false, arith, if◌then◌else◌, is_some}
+use Rattle.std.proofs.Common.{◌≡◌, ◌⊎◌, ℕ, zero, suc, ◌+◌, ◌<◌, ◌≤◌, Bool, true, false, not, ◌&&◌, ◌||◌, List, [], ◌∷◌, ◌++◌, Option, Some, None, nat_eq, nat_lt, nat_le, take, flat_map, length, refl, sym, ◌∙◌, ap, subst, inl, inr, append-nil, true≢false, arith, if◌then◌else◌, is_some}
 use Rattle.std.proofs.Math.Seq.{drop-length, take-length, take-nil}
 use Rattle.std.proofs.lemmas.Bool.{le-ltb, or_from}
 use Rattle.std.proofs.lemmas.Bool.Decides.{nat_tests}
@@ -18,9 +16,7 @@ use Rattle.fibs_model.specs.Headline.{IsAtRest}
 use Rattle.fibs_model.specs.Joint.{AreLines}
 use Rattle.fibs_model.specs.Refusals.{refusal}
 use Rattle.fibs_model.specs.declared.machine.refusal.WorldRefusal.{WorldRefusal}
-use Rattle.fibs_model.specs.declared.machine.refusal.WorldRefusal.TheVariants.{NoSuchConnection, BadDice}
-use Rattle.fibs_model.specs.declared.machine.refusal.WorldRefusal.TheVariants.{NothingToServe}
-use Rattle.fibs_model.specs.declared.machine.refusal.WorldRefusal.TheVariants.{NotOpen}
+use Rattle.fibs_model.specs.declared.machine.refusal.WorldRefusal.TheVariants.{NoSuchConnection, BadDice, NothingToServe, NotOpen}
 use Rattle.fibs_model.specs.Runs.{AllAccepted, MayBe, after_all, world_after}
 use Rattle.fibs_model.specs.Server.{Served}
 use Rattle.fibs_model.specs.Server as V
@@ -41,9 +37,7 @@ use Rattle.fibs_model.proofs.joint.Deliver.{hearing_begins}
 use Rattle.fibs_model.proofs.joint.EachEvent.{joint_after, joint_start, served}
 use Rattle.fibs_model.proofs.joint.Joint.{Joint, linked_same, linked_keeps}
 use Rattle.fibs_model.proofs.joint.Left.{way_texts}
-use Rattle.fibs_model.proofs.rest.Measure.{returns_in, returns_none, returns_most, returns_less, returns_lines, due}
-use Rattle.fibs_model.proofs.rest.Measure.{due_most, Lessens, NoRoll, lessens_served, Lighter, lighter_same}
-use Rattle.fibs_model.proofs.rest.Measure.{lighter_all, due_relinked, is_message, has_message, message_append}
+use Rattle.fibs_model.proofs.rest.Measure.{returns_in, returns_none, returns_most, returns_less, returns_lines, due, due_most, Lessens, NoRoll, lessens_served, Lighter, lighter_same, lighter_all, due_relinked, is_message, has_message, message_append}
 use Rattle.fibs_model.proofs.joint.Sending.{not_older, open_way, same_test, which}
 
 -- one, if any byte is on its way

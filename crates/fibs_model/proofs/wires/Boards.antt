@@ -1,6 +1,5 @@
 -- What the client hears of the lines that the server sends, in whatever pieces their bytes come.
-use Rattle.std.proofs.Common.{◌≡◌, ℕ, true, false, List, [], ◌∷◌, ◌++◌, flat_map, take, drop, length, refl, sym, ◌∙◌}
-use Rattle.std.proofs.Common.{ap, append-nil, append_assoc, true≢false, take-append-drop}
+use Rattle.std.proofs.Common.{◌≡◌, ℕ, true, false, List, [], ◌∷◌, ◌++◌, flat_map, take, drop, length, refl, sym, ◌∙◌, ap, append-nil, append_assoc, true≢false, take-append-drop}
 use Rattle.std.proofs.Math.Seq.{drop-append_seam}
 use Rattle.std.proofs.lemmas.List.Concat.{flat_map-append}
 use Rattle.fibs_fields.specs.Board.{BoardFields as Board, spelling}

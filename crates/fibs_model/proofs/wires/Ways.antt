@@ -1,7 +1,5 @@
 -- The commands that are on their way to the server.
-use Rattle.std.proofs.Common.{◌≡◌, ℕ, ◌-◌, ◌<◌, ◌≤◌, Bool, true, false, List, [], ◌∷◌, ◌++◌, Option, Some, None}
-use Rattle.std.proofs.Common.{flat_map, take, length, refl, sym, ◌∙◌, zero, suc, ap, subst, inl, inr, ◌⊎◌, append-nil}
-use Rattle.std.proofs.Common.{append_assoc, true≢false, arith}
+use Rattle.std.proofs.Common.{◌≡◌, ℕ, ◌-◌, ◌<◌, ◌≤◌, Bool, true, false, List, [], ◌∷◌, ◌++◌, Option, Some, None, flat_map, take, length, refl, sym, ◌∙◌, zero, suc, ap, subst, inl, inr, ◌⊎◌, append-nil, append_assoc, true≢false, arith}
 use Rattle.std.proofs.lemmas.List.{take-append-le}
 use Rattle.std.proofs.lemmas.List.Concat.{flat_map-append}
 use Rattle.std.proofs.lemmas.Bool.{cases_lt}

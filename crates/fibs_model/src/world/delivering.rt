@@ -1,7 +1,6 @@
 //! Bytes go to the client.
 
-ghost use Rattle.std.specs.Prelude.{◌≡◌, ◌≤◌, ◌<◌, ◌+◌, ◌*◌, count_by, length, map, take, drop};
-ghost use Rattle.std.specs.Prelude.{vec_len, vec_capacity, if◌then◌else◌, IfSome, true, OnOk, OnErr, IsErrOf};
+ghost use Rattle.std.specs.Prelude.{◌≡◌, ◌≤◌, ◌<◌, ◌+◌, ◌*◌, count_by, length, map, take, drop, vec_len, vec_capacity, if◌then◌else◌, IfSome, true, OnOk, OnErr, IsErrOf};
 ghost use Rattle.fibs_lines.specs.Lines.{is_line_end};
 ghost use Rattle.fibs_model.specs.Crossings.{crossings_in};
 ghost use Rattle.fibs_model.specs.EntryOf.{entry_of};

@@ -1,7 +1,6 @@
 //! The client hears bytes, with room for all that they add.
 
-ghost use Rattle.std.specs.Prelude.{◌≡◌, ◌≤◌, ◌<◌, ◌+◌, ◌++◌, List, length, map, take, drop, vec_len};
-ghost use Rattle.std.specs.Prelude.{vec_capacity};
+ghost use Rattle.std.specs.Prelude.{◌≡◌, ◌≤◌, ◌<◌, ◌+◌, ◌++◌, List, length, map, take, drop, vec_len, vec_capacity};
 ghost use Rattle.fibs_messages.specs.Line.{reading_of};
 ghost use Rattle.fibs_session.specs.Calls.SessionOf.{texts_of};
 ghost use Rattle.fibs_session.specs.History.Hearing.{heard};

@@ -1,7 +1,6 @@
 //! The server takes a line.
 
-ghost use Rattle.std.specs.Prelude.{◌≡◌, ◌≤◌, ◌<◌, ◌+◌, ℕ, true, length, OnOk, OnErr, IsErrOf};
-ghost use Rattle.std.specs.Prelude.{IsSome, vec_len, slice_index, if◌then◌else◌};
+ghost use Rattle.std.specs.Prelude.{◌≡◌, ◌≤◌, ◌<◌, ◌+◌, ℕ, true, length, OnOk, OnErr, IsErrOf, IsSome, vec_len, slice_index, if◌then◌else◌};
 ghost use Rattle.fibs_fields.specs.Board.{spelling};
 ghost use Rattle.fibs_model.specs.Calls.{send_links, TakesLine, TakesNext};
 ghost use Rattle.fibs_model.specs.Crossings.{crossings_in};

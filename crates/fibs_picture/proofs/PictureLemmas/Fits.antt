@@ -1,7 +1,5 @@
 -- A picture is fourteen lines that fit a terminal.
-use Rattle.std.proofs.Common.{◌≡◌, ◌<◌, ◌≤◌, ◌+◌, ◌/◌, ◌%◌, ◌^◌, ◌==◌, ◌&&◌, ◌++◌, ℕ, zero, suc, Bool}
-use Rattle.std.proofs.Common.{true, false, cond, List, [], ◌∷◌, length, take, codes, map, refl, sym}
-use Rattle.std.proofs.Common.{arith, lit<, lit≤, nat_lt, nat_le, append_assoc}
+use Rattle.std.proofs.Common.{◌≡◌, ◌<◌, ◌≤◌, ◌+◌, ◌/◌, ◌%◌, ◌^◌, ◌==◌, ◌&&◌, ◌++◌, ℕ, zero, suc, Bool, true, false, cond, List, [], ◌∷◌, length, take, codes, map, refl, sym, arith, lit<, lit≤, nat_lt, nat_le, append_assoc}
 use Rattle.std.specs.Prelude.{ℤ, pos, negsuc, decimal, slice_index}
 use Rattle.std.specs.Fmt.{signed_decimal}
 use Rattle.std.specs.Int.{is_in_range}
@@ -30,10 +28,7 @@ use Rattle.fibs_position.specs.declared.phase.Phase.{Phase}
 use Rattle.fibs_position.specs.declared.phase.Phase.TheVariants as phase
 use Rattle.fibs_picture.specs.Cells.{two_digits, level, stack, label, own_letter, other_letter}
 use Rattle.fibs_picture.specs.Fits.{Fits, ended, PictureFits}
-use Rattle.fibs_picture.specs.Picture.{line, upper_lines, lower_lines, drawn, picture, edge, layer, middle, named, six}
-use Rattle.fibs_picture.specs.Picture.{left_first, right_first, labels, stands, stacks, bar, score, off, pips, own_pips}
-use Rattle.fibs_picture.specs.Picture.{other_pips, dice, match_length, doublers, is_one, cube, turn_words}
-use Rattle.fibs_picture.specs.Picture.{deed, deed_in, may}
+use Rattle.fibs_picture.specs.Picture.{line, upper_lines, lower_lines, drawn, picture, edge, layer, middle, named, six, left_first, right_first, labels, stands, stacks, bar, score, off, pips, own_pips, other_pips, dice, match_length, doublers, is_one, cube, turn_words, deed, deed_in, may}
 use Rattle.fibs_picture.specs.declared.half.Half.{Half}
 use Rattle.fibs_picture.specs.declared.half.Half.TheVariants as half
 use Rattle.fibs_picture.proofs.PictureLemmas.Layers.{length-edge, length-layer}

@@ -1,6 +1,5 @@
 -- The lines of a half determine what is in it.
-use Rattle.std.proofs.Common.{◌≡◌, ◌++◌, ℕ, List, length}
-use Rattle.std.proofs.Common.{codes, refl, sym, ◌∙◌, ap, arith}
+use Rattle.std.proofs.Common.{◌≡◌, ◌++◌, ℕ, List, length, codes, refl, sym, ◌∙◌, ap, arith}
 use Rattle.std.specs.Prelude.{slice_index}
 use Rattle.std.proofs.lemmas.List.{length-append, append_cancel_left}
 use Rattle.fibs_rules.specs.Checkers.{Checkers}
@@ -13,8 +12,7 @@ use Rattle.fibs_picture.specs.declared.half.Half.{Half}
 use Rattle.fibs_picture.specs.declared.half.Half.TheVariants as half
 use Rattle.fibs_picture.proofs.PictureLemmas.Parts.{parts-tell}
 use Rattle.fibs_picture.proofs.PictureLemmas.Columns.{OneSide}
-use Rattle.fibs_picture.proofs.PictureLemmas.Cells.{AllOf, length-stack, cells-alone-tell, length-cells, SameAt}
-use Rattle.fibs_picture.proofs.PictureLemmas.Cells.{heights-tell}
+use Rattle.fibs_picture.proofs.PictureLemmas.Cells.{AllOf, length-stack, cells-alone-tell, length-cells, SameAt, heights-tell}
 
 -- ---- widths
 

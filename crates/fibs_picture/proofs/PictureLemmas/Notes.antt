@@ -1,8 +1,5 @@
 -- The words beside a board have no line end within them, and determine what they say.
-use Rattle.std.proofs.Common.{◌≡◌, ◌⊎◌, ◌<◌, ◌+◌, ◌^◌, ◌==◌, ◌&&◌, ◌++◌, ℕ, zero, suc, Bool, true}
-use Rattle.std.proofs.Common.{false, not, cond}
-use Rattle.std.proofs.Common.{List, [], ◌∷◌, length, take, codes, refl, sym, ◌∙◌, ap, arith, lit<}
-use Rattle.std.proofs.Common.{nat_lt, nat_le, inl, inr}
+use Rattle.std.proofs.Common.{◌≡◌, ◌⊎◌, ◌<◌, ◌+◌, ◌^◌, ◌==◌, ◌&&◌, ◌++◌, ℕ, zero, suc, Bool, true, false, not, cond, List, [], ◌∷◌, length, take, codes, refl, sym, ◌∙◌, ap, arith, lit<, nat_lt, nat_le, inl, inr}
 use Rattle.std.specs.Prelude.{ℤ, pos, negsuc, ◌≤ℤ◌, int_le, slice_index_or}
 use Rattle.std.specs.Fmt.{signed_decimal}
 use Rattle.std.specs.List.{list_all}
@@ -21,8 +18,7 @@ use Rattle.fibs_position.specs.Phases.{phase_in}
 use Rattle.fibs_position.specs.PositionValue.{PositionValue}
 use Rattle.fibs_position.specs.declared.phase.Phase.{Phase}
 use Rattle.fibs_position.specs.declared.phase.Phase.TheVariants as phase
-use Rattle.fibs_picture.specs.Picture.{named, two_dice, dice, match_length, doublers, is_one, cube}
-use Rattle.fibs_picture.specs.Picture.{turn_words, deed, deed_in, may}
+use Rattle.fibs_picture.specs.Picture.{named, two_dice, dice, match_length, doublers, is_one, cube, turn_words, deed, deed_in, may}
 use Rattle.fibs_picture.specs.Told.{Whose, nobodys, the_players, the_opponents}
 use Rattle.fibs_picture.proofs.PictureLemmas.Parts.{lacks, lacks-append, decimal-lacks, ends-tell}
 

@@ -1,6 +1,5 @@
 -- What a board's fields may be: each place holds checkers of one side only, and few of them.
-use Rattle.std.proofs.Common.{◌≡◌, ◌⊎◌, ◌≤◌, ℕ, zero, suc, refl, sym, subst}
-use Rattle.std.proofs.Common.{arith, inl, inr, lit≤}
+use Rattle.std.proofs.Common.{◌≡◌, ◌⊎◌, ◌≤◌, ℕ, zero, suc, refl, sym, subst, arith, inl, inr, lit≤}
 use Rattle.std.specs.Prelude.{ℤ, pos, negsuc, neg_ℤ, ◌≤ℤ◌}
 use Rattle.std.proofs.lemmas.Int.{ints}
 use Rattle.fibs_fields.specs.Board.{BoardFields, IsBoard, field_of}

@@ -1,7 +1,5 @@
 -- A picture determines its board: line by line, and in the lines place by place.
-use Rattle.std.proofs.Common.{◌≡◌, ◌⊎◌, ◌<◌, ◌≤◌, ◌+◌, ◌-◌, ◌*◌, ◌^◌, ◌++◌, ℕ, zero, suc, true, List, [], ◌∷◌}
-use Rattle.std.proofs.Common.{length, codes}
-use Rattle.std.proofs.Common.{refl, sym, ◌∙◌, ap, subst, arith, append-nil, lit<, lit≤, map, sum}
+use Rattle.std.proofs.Common.{◌≡◌, ◌⊎◌, ◌<◌, ◌≤◌, ◌+◌, ◌-◌, ◌*◌, ◌^◌, ◌++◌, ℕ, zero, suc, true, List, [], ◌∷◌, length, codes, refl, sym, ◌∙◌, ap, subst, arith, append-nil, lit<, lit≤, map, sum}
 use Rattle.std.specs.Prelude.{ℤ, pos, neg_ℤ, ◌≤ℤ◌, slice_index, slice_index_or, decimal}
 use Rattle.std.proofs.lemmas.Int.{ints}
 use Rattle.std.specs.Fmt.{signed_decimal}
@@ -14,14 +12,10 @@ use Rattle.fibs_fields.specs.Board.{BoardFields, IsBoard, field_of, can_have}
 use Rattle.fibs_fields.specs.FieldRanges.{FieldRanges}
 use Rattle.fibs_rules.specs.Checkers.{Checkers}
 use Rattle.fibs_position.specs.GoodBoard.{IsGood}
-use Rattle.fibs_position.specs.OwnView.{own_view, places, stand_on, own_on_places, other_on_places}
+use Rattle.fibs_position.specs.OwnView.{own_view, places, stand_on, own_on_places, other_on_places, own_off, other_off, own_placed, other_placed, colour, turn}
 use Rattle.fibs_fields.specs.FieldReading.{natural}
-use Rattle.fibs_position.specs.OwnView.{own_off, other_off, own_placed, other_placed, colour, turn}
 use Rattle.fibs_position.specs.PositionValue.{PositionValue, position_of}
-use Rattle.fibs_picture.specs.Picture.{line, upper_lines, lower_lines, drawn, picture, edge, layer, named}
-use Rattle.fibs_picture.specs.Picture.{score, off, pips, own_pips, other_pips, own_pips_on, other_pips_on, dice}
-use Rattle.fibs_picture.specs.Picture.{match_length, cube, turn_words, deed_in}
-use Rattle.fibs_picture.specs.Picture.{six}
+use Rattle.fibs_picture.specs.Picture.{line, upper_lines, lower_lines, drawn, picture, edge, layer, named, score, off, pips, own_pips, other_pips, own_pips_on, other_pips_on, dice, match_length, cube, turn_words, deed_in, six}
 use Rattle.fibs_picture.specs.Told.{PictureTells, SameToTheEye}
 use Rattle.fibs_picture.specs.declared.half.Half.{Half}
 use Rattle.fibs_picture.specs.declared.half.Half.TheVariants as half
@@ -29,15 +23,8 @@ use Rattle.fibs_picture.proofs.PictureLemmas.Parts.{lacks, lacks-append, decimal
 use Rattle.fibs_picture.proofs.PictureLemmas.Columns.{OneSide}
 use Rattle.fibs_picture.proofs.PictureLemmas.Cells.{AllOf}
 use Rattle.fibs_picture.proofs.PictureLemmas.Sides.{one-side}
-use Rattle.fibs_picture.proofs.PictureLemmas.Notes.{Within, match-within, own-score-within, other-score-within}
-use Rattle.fibs_picture.proofs.PictureLemmas.Notes.{number-tells, number-lacks}
-use Rattle.fibs_picture.proofs.PictureLemmas.Notes.{named-lacks, named-tells, turn_words-lacks, turn_words-tell}
-use Rattle.fibs_picture.proofs.PictureLemmas.Notes.{deed_in-lacks, deed_in-tells, dice-lacks}
-use Rattle.fibs_picture.proofs.PictureLemmas.Notes.{dice-tell, match-lacks, match-tells, cube-lacks, cube-tells}
-use Rattle.fibs_picture.proofs.PictureLemmas.Notes.{flag-tells}
-use Rattle.fibs_picture.proofs.PictureLemmas.Layers.{length-edge, length-layer, layer-tells, SameHalf, Sided, Same}
-use Rattle.fibs_picture.proofs.PictureLemmas.Layers.{left-tells, right-tells}
-use Rattle.fibs_picture.proofs.PictureLemmas.Layers.{edge-tells}
+use Rattle.fibs_picture.proofs.PictureLemmas.Notes.{Within, match-within, own-score-within, other-score-within, number-tells, number-lacks, named-lacks, named-tells, turn_words-lacks, turn_words-tell, deed_in-lacks, deed_in-tells, dice-lacks, dice-tell, match-lacks, match-tells, cube-lacks, cube-tells, flag-tells}
+use Rattle.fibs_picture.proofs.PictureLemmas.Layers.{length-edge, length-layer, layer-tells, SameHalf, Sided, Same, left-tells, right-tells, edge-tells}
 
 -- ---- what a board's fields may be
 

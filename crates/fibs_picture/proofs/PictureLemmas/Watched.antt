@@ -1,6 +1,5 @@
 -- The picture of a watched board determines it, with both names.
-use Rattle.std.proofs.Common.{◌≡◌, ◌<◌, ◌==◌, ◌&&◌, ◌++◌, ℕ, Bool, true, false, not, cond, List, [], ◌∷◌}
-use Rattle.std.proofs.Common.{length, take, codes, refl, sym, ◌∙◌, ap, append-nil, lit<, nat_lt, nat_le}
+use Rattle.std.proofs.Common.{◌≡◌, ◌<◌, ◌==◌, ◌&&◌, ◌++◌, ℕ, Bool, true, false, not, cond, List, [], ◌∷◌, length, take, codes, refl, sym, ◌∙◌, ap, append-nil, lit<, nat_lt, nat_le}
 use Rattle.std.specs.Prelude.{ℤ, pos, slice_index_or}
 use Rattle.std.specs.Fmt.{signed_decimal}
 use Rattle.std.specs.List.{list_all}
@@ -15,23 +14,15 @@ use Rattle.fibs_position.specs.OwnView.{own_view, turn, colour}
 use Rattle.fibs_position.specs.PositionValue.{position_of}
 use Rattle.fibs_position.specs.Watched.{IsWatched}
 use Rattle.fibs_picture.specs.Cells.{own_letter, other_letter}
-use Rattle.fibs_picture.specs.Picture.{edge, named, score, off, pips, own_pips, other_pips, dice}
-use Rattle.fibs_picture.specs.Picture.{match_length, is_one}
+use Rattle.fibs_picture.specs.Picture.{edge, named, score, off, pips, own_pips, other_pips, dice, match_length, is_one}
 use Rattle.fibs_picture.specs.Told.{Whose, nobodys, the_players, the_opponents}
-use Rattle.fibs_picture.specs.Watched.{possessive, watched_turn, doublers_of, watched_cube, watched_lines}
-use Rattle.fibs_picture.specs.Watched.{watched_picture}
+use Rattle.fibs_picture.specs.Watched.{possessive, watched_turn, doublers_of, watched_cube, watched_lines, watched_picture}
 use Rattle.fibs_picture.specs.WatchedTold.{SameToTheWatcher, WatchedPictureTells}
 use Rattle.fibs_picture.specs.declared.half.Half.TheVariants as half
 use Rattle.fibs_picture.proofs.PictureLemmas.Parts.{lacks, lacks-append, ends-tell, Alike, lines-tell}
-use Rattle.fibs_picture.proofs.PictureLemmas.Notes.{Within, number-tells, number-lacks, name-byte, take-lacks, all-mono}
-use Rattle.fibs_picture.proofs.PictureLemmas.Notes.{named-lacks, named-tells, dice-lacks, dice-tell, match-lacks}
-use Rattle.fibs_picture.proofs.PictureLemmas.Notes.{match-tells, flag-tells, whose}
+use Rattle.fibs_picture.proofs.PictureLemmas.Notes.{Within, number-tells, number-lacks, name-byte, take-lacks, all-mono, named-lacks, named-tells, dice-lacks, dice-tell, match-lacks, match-tells, flag-tells, whose}
 use Rattle.fibs_picture.proofs.PictureLemmas.Layers.{layer-tells, SameHalf, edge-tells}
-use Rattle.fibs_picture.proofs.PictureLemmas.Told.{ranges-of, same-places, own-places-same, other-places-same}
-use Rattle.fibs_picture.proofs.PictureLemmas.Told.{view-same, pips-lacks, score-lacks, off-lacks, score-tells}
-use Rattle.fibs_picture.proofs.PictureLemmas.Told.{off-tells}
-use Rattle.fibs_picture.proofs.PictureLemmas.Told.{layers-wide, edges-wide, line_at, pair-same, four-same}
-use Rattle.fibs_picture.proofs.PictureLemmas.Told.{own-pips-few, other-pips-few}
+use Rattle.fibs_picture.proofs.PictureLemmas.Told.{ranges-of, same-places, own-places-same, other-places-same, view-same, pips-lacks, score-lacks, off-lacks, score-tells, off-tells, layers-wide, edges-wide, line_at, pair-same, four-same, own-pips-few, other-pips-few}
 
 -- ---- names
 

@@ -1,6 +1,5 @@
 -- The picture of a watched board is thirteen lines that fit a terminal.
-use Rattle.std.proofs.Common.{◌≡◌, ◌≤◌, ◌<◌, ◌+◌, ◌^◌, ◌&&◌, ◌++◌, ℕ, Bool, true, false, cond, List, length}
-use Rattle.std.proofs.Common.{take, codes, refl, arith, lit<, lit≤, nat_lt, nat_le}
+use Rattle.std.proofs.Common.{◌≡◌, ◌≤◌, ◌<◌, ◌+◌, ◌^◌, ◌&&◌, ◌++◌, ℕ, Bool, true, false, cond, List, length, take, codes, refl, arith, lit<, lit≤, nat_lt, nat_le}
 use Rattle.std.specs.Prelude.{ℤ, pos, negsuc, decimal}
 use Rattle.std.specs.Fmt.{signed_decimal}
 use Rattle.std.specs.Int.{is_in_range}
@@ -22,10 +21,7 @@ use Rattle.fibs_picture.specs.Picture.{middle, own_pips, other_pips, is_one}
 use Rattle.fibs_picture.specs.Watched.{possessive, watched_turn, doublers_of, watched_cube, watched_lines}
 use Rattle.fibs_picture.specs.WatchedTold.{WatchedPictureFits}
 use Rattle.fibs_picture.specs.declared.half.Half.TheVariants as half
-use Rattle.fibs_picture.proofs.PictureLemmas.Fits.{printed, printed-append, printed-take, IsFew, IsBrief}
-use Rattle.fibs_picture.proofs.PictureLemmas.Fits.{decimal-printed, lines-ended}
-use Rattle.fibs_picture.proofs.PictureLemmas.Fits.{name-byte-printed, named-brief, dice-brief, match-brief, score-brief}
-use Rattle.fibs_picture.proofs.PictureLemmas.Fits.{off-brief, pips-brief, beside, at-edge, at-layer, joined}
+use Rattle.fibs_picture.proofs.PictureLemmas.Fits.{printed, printed-append, printed-take, IsFew, IsBrief, decimal-printed, lines-ended, name-byte-printed, named-brief, dice-brief, match-brief, score-brief, off-brief, pips-brief, beside, at-edge, at-layer, joined}
 use Rattle.fibs_picture.proofs.PictureLemmas.Notes.{Within, all-mono}
 use Rattle.fibs_picture.proofs.PictureLemmas.Told.{ranges-of, own-few, other-few, own-pips-few, other-pips-few}
 

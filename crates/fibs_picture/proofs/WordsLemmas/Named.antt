@@ -1,6 +1,5 @@
 -- Equal rows with names say the same.
-use Rattle.std.proofs.Common.{◌≡◌, ◌<◌, ◌+◌, ◌-◌, ◌==◌, ◌&&◌, ◌++◌, ℕ, Bool, true, false, not, cond}
-use Rattle.std.proofs.Common.{List, [], ◌∷◌, codes, refl, sym, ◌∙◌, ap, arith, lit<, append_assoc}
+use Rattle.std.proofs.Common.{◌≡◌, ◌<◌, ◌+◌, ◌-◌, ◌==◌, ◌&&◌, ◌++◌, ℕ, Bool, true, false, not, cond, List, [], ◌∷◌, codes, refl, sym, ◌∙◌, ap, arith, lit<, append_assoc}
 use Rattle.std.specs.Prelude.{ℤ, slice_index_or}
 use Rattle.std.specs.Fmt.{signed_decimal}
 use Rattle.std.proofs.lemmas.Bool.{and_parts}
@@ -15,8 +14,7 @@ use Rattle.fibs_picture.specs.Picture.{is_one}
 use Rattle.fibs_picture.proofs.PictureLemmas.Parts.{lacks, lacks-append, ends-tell}
 use Rattle.fibs_picture.proofs.PictureLemmas.Notes.{Within, number-tells, number-lacks}
 use Rattle.fibs_picture.specs.InWords.Words.{pair}
-use Rattle.fibs_picture.specs.InWords.Watched.{against_row, offered_said, turn_named, dice_said, dice_named, owner_said}
-use Rattle.fibs_picture.specs.InWords.Watched.{cube_named, way_said}
+use Rattle.fibs_picture.specs.InWords.Watched.{against_row, offered_said, turn_named, dice_said, dice_named, owner_said, cube_named, way_said}
 use Rattle.fibs_picture.proofs.WordsLemmas.Rows.{digit-plain, is-zero}
 
 -- ---- who plays

@@ -1,6 +1,5 @@
 -- Equal rows on the game say the same.
-use Rattle.std.proofs.Common.{◌≡◌, ◌<◌, ◌+◌, ◌-◌, ◌==◌, ◌&&◌, ◌++◌, ℕ, zero, Bool, true, false, not}
-use Rattle.std.proofs.Common.{cond, List, [], ◌∷◌, length, codes, refl, sym, ◌∙◌, ap, arith, lit<, append_assoc}
+use Rattle.std.proofs.Common.{◌≡◌, ◌<◌, ◌+◌, ◌-◌, ◌==◌, ◌&&◌, ◌++◌, ℕ, zero, Bool, true, false, not, cond, List, [], ◌∷◌, length, codes, refl, sym, ◌∙◌, ap, arith, lit<, append_assoc}
 use Rattle.std.specs.Prelude.{ℤ, slice_index_or}
 use Rattle.std.specs.Fmt.{signed_decimal}
 use Rattle.std.specs.List.{flat_map}
@@ -16,10 +15,8 @@ use Rattle.fibs_picture.specs.Fits.{ended}
 use Rattle.fibs_picture.specs.Picture.{cube, is_one, match_length}
 use Rattle.fibs_picture.specs.Told.{Whose, nobodys, the_players, the_opponents}
 use Rattle.fibs_picture.proofs.PictureLemmas.Parts.{lacks, lacks-append, ends-tell}
-use Rattle.fibs_picture.proofs.PictureLemmas.Notes.{Within, number-tells, number-lacks, match-lacks, match-tells}
-use Rattle.fibs_picture.proofs.PictureLemmas.Notes.{cube-lacks, cube-tells}
-use Rattle.fibs_picture.specs.InWords.Words.{whose, turn_said, phase_said, turn_row, pair, dice_row}
-use Rattle.fibs_picture.specs.InWords.Words.{score_row, cube_shows, cube_row, direction_row}
+use Rattle.fibs_picture.proofs.PictureLemmas.Notes.{Within, number-tells, number-lacks, match-lacks, match-tells, cube-lacks, cube-tells}
+use Rattle.fibs_picture.specs.InWords.Words.{whose, turn_said, phase_said, turn_row, pair, dice_row, score_row, cube_shows, cube_row, direction_row}
 
 -- ---- rows are known from each other
 

@@ -1,7 +1,5 @@
 -- Words determine their board: row by row, and in the rows of the sides place by place.
-use Rattle.std.proofs.Common.{◌≡◌, ◌≤◌, ◌+◌, ◌-◌, ◌++◌, ℕ, zero, suc, true}
-use Rattle.std.proofs.Common.{not, Bool, ◌==◌, ◌&&◌, List, [], ◌∷◌, length, codes}
-use Rattle.std.proofs.Common.{refl, sym, ◌∙◌, ap, subst, arith, append_assoc, take}
+use Rattle.std.proofs.Common.{◌≡◌, ◌≤◌, ◌+◌, ◌-◌, ◌++◌, ℕ, zero, suc, true, not, Bool, ◌==◌, ◌&&◌, List, [], ◌∷◌, length, codes, refl, sym, ◌∙◌, ap, subst, arith, append_assoc, take}
 use Rattle.std.specs.Prelude.{ℤ, pos, negsuc, nat_lt, nat_le, slice_index, slice_index_or}
 use Rattle.std.specs.List.{flat_map, list_all}
 use Rattle.std.proofs.lemmas.Bool.{and_parts}
@@ -25,14 +23,10 @@ use Rattle.fibs_picture.proofs.PictureLemmas.Parts.{lacks}
 use Rattle.fibs_picture.proofs.PictureLemmas.Notes.{Within, flag-tells, all-mono}
 use Rattle.fibs_picture.proofs.PictureLemmas.Told.{Ranges, ranges-of, own-few, other-few, own-pips-few, other-pips-few}
 use Rattle.fibs_picture.specs.InWords.Told.{WordsTell}
-use Rattle.fibs_picture.specs.InWords.Words.{whose, turn_row, dice_row, score_row, cube_row, direction_row, count_on}
-use Rattle.fibs_picture.specs.InWords.Words.{side_row}
-use Rattle.fibs_picture.specs.InWords.Words.{held_row, game_rows, checkers_rows, told, words}
+use Rattle.fibs_picture.specs.InWords.Words.{whose, turn_row, dice_row, score_row, cube_row, direction_row, count_on, side_row, held_row, game_rows, checkers_rows, told, words}
 use Rattle.fibs_picture.specs.declared.in_words.side.Side.TheVariants as side
 use Rattle.fibs_picture.proofs.WordsLemmas.Places.{Few, side-tells}
-use Rattle.fibs_picture.proofs.WordsLemmas.Rows.{Plain, rows-tell, turn_row-lacks, turn_row-tells, dice_row-lacks}
-use Rattle.fibs_picture.proofs.WordsLemmas.Rows.{dice_row-tells, score_row-lacks, score_row-tells, cube_row-lacks}
-use Rattle.fibs_picture.proofs.WordsLemmas.Rows.{cube_row-tells, direction_row-lacks, direction_row-tells}
+use Rattle.fibs_picture.proofs.WordsLemmas.Rows.{Plain, rows-tell, turn_row-lacks, turn_row-tells, dice_row-lacks, dice_row-tells, score_row-lacks, score_row-tells, cube_row-lacks, cube_row-tells, direction_row-lacks, direction_row-tells}
 
 -- ---- names
 

@@ -1,6 +1,5 @@
 -- The words of a watched board determine it, with both names.
-use Rattle.std.proofs.Common.{◌≡◌, ◌+◌, ◌-◌, ◌==◌, ◌&&◌, ◌++◌, ℕ, Bool, true, false, not, cond}
-use Rattle.std.proofs.Common.{List, [], ◌∷◌, length, take, refl, sym, ◌∙◌, ap, arith}
+use Rattle.std.proofs.Common.{◌≡◌, ◌+◌, ◌-◌, ◌==◌, ◌&&◌, ◌++◌, ℕ, Bool, true, false, not, cond, List, [], ◌∷◌, length, take, refl, sym, ◌∙◌, ap, arith}
 use Rattle.std.specs.Prelude.{pos, Some, unwrap_or}
 use Rattle.std.specs.List.{flat_map}
 use Rattle.std.specs.Ordering.{int_eq}
@@ -24,20 +23,13 @@ use Rattle.fibs_picture.proofs.PictureLemmas.Notes.{flag-tells}
 use Rattle.fibs_picture.proofs.PictureLemmas.Told.{Ranges, ranges-of, own-few, other-few, own-pips-few, other-pips-few}
 use Rattle.fibs_picture.proofs.PictureLemmas.Watched.{front-lacks}
 use Rattle.fibs_picture.specs.InWords.Words.{score_row, count_on, side_row}
-use Rattle.fibs_picture.specs.InWords.Watched.{against_row, is_others, turn_named, dice_said, dice_named, cube_named}
-use Rattle.fibs_picture.specs.InWords.Watched.{way_said}
-use Rattle.fibs_picture.specs.InWords.Watched.{held_named, named_game_rows, named_checkers_rows, named_told}
-use Rattle.fibs_picture.specs.InWords.Watched.{watched_words}
+use Rattle.fibs_picture.specs.InWords.Watched.{against_row, is_others, turn_named, dice_said, dice_named, cube_named, way_said, held_named, named_game_rows, named_checkers_rows, named_told, watched_words}
 use Rattle.fibs_picture.specs.InWords.WatchedTold.{WatchedWordsTell}
 use Rattle.fibs_picture.specs.declared.in_words.side.Side.TheVariants as side
 use Rattle.fibs_picture.proofs.WordsLemmas.Places.{Few, side-tells}
 use Rattle.fibs_picture.proofs.WordsLemmas.Rows.{Plain, rows-tell, score_row-lacks, score_row-tells}
-use Rattle.fibs_picture.proofs.WordsLemmas.Named.{against_row-lacks, turn_named-lacks, turn_named-tells, offered_to}
-use Rattle.fibs_picture.proofs.WordsLemmas.Named.{dice_said-lacks, comma-lacks, dice_said-tells, dice_named-lacks}
-use Rattle.fibs_picture.proofs.WordsLemmas.Named.{dice_named-tells, cube_named-lacks, cube_named-tells, way_row-lacks}
-use Rattle.fibs_picture.proofs.WordsLemmas.Named.{way_row-tells}
-use Rattle.fibs_picture.proofs.WordsLemmas.Tells.{name-lacks, three-rows, checkers, row_at, tail-same, SameCheckers}
-use Rattle.fibs_picture.proofs.WordsLemmas.Tells.{view-same, natural-same, pair-same, four-same}
+use Rattle.fibs_picture.proofs.WordsLemmas.Named.{against_row-lacks, turn_named-lacks, turn_named-tells, offered_to, dice_said-lacks, comma-lacks, dice_said-tells, dice_named-lacks, dice_named-tells, cube_named-lacks, cube_named-tells, way_row-lacks, way_row-tells}
+use Rattle.fibs_picture.proofs.WordsLemmas.Tells.{name-lacks, three-rows, checkers, row_at, tail-same, SameCheckers, view-same, natural-same, pair-same, four-same}
 
 -- ---- the phase says whose turn it is
 

@@ -1,7 +1,6 @@
 -- A board in words, for a player who hears it or reads it by touch (the project's own): rows of plain ASCII, one fact a
 -- row, its subject first, a stop at its end. Places have the numbers that the player types.
-use Rattle.std.specs.Prelude.{◌-◌, ◌+◌, ◌++◌, ◌==◌, ◌&&◌, ℕ, ℤ, pos, List, [], ◌∷◌, codes, decimal, take, nat_lt}
-use Rattle.std.specs.Prelude.{Bool, slice_index, if◌then◌else◌}
+use Rattle.std.specs.Prelude.{◌-◌, ◌+◌, ◌++◌, ◌==◌, ◌&&◌, ℕ, ℤ, pos, List, [], ◌∷◌, codes, decimal, take, nat_lt, Bool, slice_index, if◌then◌else◌}
 use Rattle.std.specs.Fmt.{signed_decimal}
 use Rattle.std.specs.List.{flat_map, filter, join_by, range_with_len}
 use Rattle.std.specs.Ordering.{int_eq}

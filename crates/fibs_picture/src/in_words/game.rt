@@ -8,9 +8,7 @@ ghost use Rattle.fibs_position.specs.OwnView.{turn, colour};
 ghost use Rattle.fibs_position.specs.PositionValue.{position_value};
 ghost use Rattle.fibs_position.specs.Phases.{phase_in};
 ghost use Rattle.fibs_picture.specs.Picture.{match_length, doublers, is_one};
-ghost use Rattle.fibs_picture.specs.InWords.Words.{whose, turn_said, phase_said, turn_row, score_row, cube_row};
-ghost use Rattle.fibs_picture.specs.InWords.Words.{cube_shows};
-ghost use Rattle.fibs_picture.specs.InWords.Words.{direction_row};
+ghost use Rattle.fibs_picture.specs.InWords.Words.{whose, turn_said, phase_said, turn_row, score_row, cube_row, cube_shows, direction_row};
 
 use crate::doublers;
 use crate::writing::{write_digits, write_text};

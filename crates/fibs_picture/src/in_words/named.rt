@@ -8,9 +8,7 @@ ghost use Rattle.fibs_fields.specs.FieldReading.{natural};
 ghost use Rattle.fibs_position.specs.PositionValue.{position_value};
 ghost use Rattle.fibs_position.specs.Phases.{phase_in};
 ghost use Rattle.fibs_picture.specs.Picture.{is_one};
-ghost use Rattle.fibs_picture.specs.InWords.Watched.{against_row, is_others, offered_said, turn_named, dice_said};
-ghost use Rattle.fibs_picture.specs.InWords.Watched.{dice_named};
-ghost use Rattle.fibs_picture.specs.InWords.Watched.{owner_said, cube_named, way_said, held_named};
+ghost use Rattle.fibs_picture.specs.InWords.Watched.{against_row, is_others, offered_said, turn_named, dice_said, dice_named, owner_said, cube_named, way_said, held_named};
 
 use crate::in_words::dice::{is_none, write_pair};
 use crate::in_words::held::write_numbers;

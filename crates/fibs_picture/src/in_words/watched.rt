@@ -9,11 +9,7 @@ ghost use Rattle.fibs_position.specs.Phases.{phase_in};
 ghost use Rattle.fibs_position.specs.PositionValue.{position_value};
 ghost use Rattle.fibs_position.specs.WatchedOf.{watched_of};
 ghost use Rattle.fibs_picture.specs.Fits.{ended};
-ghost use Rattle.fibs_picture.specs.InWords.Watched.{against_row, is_others, turn_named, dice_said, dice_named};
-ghost use Rattle.fibs_picture.specs.InWords.Watched.{cube_named};
-ghost use Rattle.fibs_picture.specs.InWords.Watched.{way_said, held_named, named_game_rows, named_checkers_rows};
-ghost use Rattle.fibs_picture.specs.InWords.Watched.{named_told};
-ghost use Rattle.fibs_picture.specs.InWords.Watched.{watched_words};
+ghost use Rattle.fibs_picture.specs.InWords.Watched.{against_row, is_others, turn_named, dice_said, dice_named, cube_named, way_said, held_named, named_game_rows, named_checkers_rows, named_told, watched_words};
 ghost use Rattle.fibs_picture.specs.InWords.Words.{score_row};
 
 use crate::in_words::game::write_score;

@@ -11,9 +11,7 @@ ghost use Rattle.fibs_position.specs.Phases.{phase_in};
 ghost use Rattle.fibs_position.specs.PositionValue.{position_value};
 ghost use Rattle.fibs_picture.specs.Fits.{ended};
 ghost use Rattle.fibs_picture.specs.Picture.{own_pips, other_pips};
-ghost use Rattle.fibs_picture.specs.InWords.Words.{whose, turn_row, dice_row, score_row, cube_row, direction_row};
-ghost use Rattle.fibs_picture.specs.InWords.Words.{count_on};
-ghost use Rattle.fibs_picture.specs.InWords.Words.{side_row, held_row, game_rows, checkers_rows, told, words};
+ghost use Rattle.fibs_picture.specs.InWords.Words.{whose, turn_row, dice_row, score_row, cube_row, direction_row, count_on, side_row, held_row, game_rows, checkers_rows, told, words};
 
 use crate::in_words::dice::write_dice_row;
 use crate::in_words::game::{write_cube, write_direction, write_score, write_turn};

@@ -1,6 +1,5 @@
 -- The board after a move is good, and shows the checkers that the steps lead to.
-use Rattle.std.proofs.Common.{◌≡◌, ℕ, zero, suc, ◌+◌, ◌-◌, ◌<◌, ◌≤◌, ◌≢◌, ◌⊎◌, inl, inr, Bool, true, false, cond, eqb}
-use Rattle.std.proofs.Common.{List, [], ◌∷◌, ◌++◌, sum, length, get_or, refl, sym, ap, subst, ◌∙◌, arith, lit≤}
+use Rattle.std.proofs.Common.{◌≡◌, ℕ, zero, suc, ◌+◌, ◌-◌, ◌<◌, ◌≤◌, ◌≢◌, ◌⊎◌, inl, inr, Bool, true, false, cond, eqb, List, [], ◌∷◌, ◌++◌, sum, length, get_or, refl, sym, ap, subst, ◌∙◌, arith, lit≤}
 use Rattle.std.specs.Prelude.{ℤ, pos, negsuc, neg_ℤ, ◌≤ℤ◌, ◌-ℤ◌, ◌==◌, map, slice_index, if◌then◌else◌}
 use Rattle.std.specs.Ordering.{int_eq}
 use Rattle.std.specs.List.{range_with_len}
@@ -16,16 +15,14 @@ use Rattle.fibs_rules.specs.Checkers.{Checkers, shifted, hit}
 use Rattle.fibs_rules.specs.LaxPlays.{LaxRun}
 use Rattle.fibs_position.specs.declared.direction.Direction.TheVariants.{Down, Up}
 use Rattle.fibs_position.specs.DirectionOf.{direction_of, line_place}
-use Rattle.fibs_position.specs.OwnView.{colour, place_field, checkers_of, stand_on, on_places, own_on_places}
-use Rattle.fibs_position.specs.OwnView.{other_on_places, own_placed, other_placed, own_off, other_off, own_view}
+use Rattle.fibs_position.specs.OwnView.{colour, place_field, checkers_of, stand_on, on_places, own_on_places, other_on_places, own_placed, other_placed, own_off, other_off, own_view}
 use Rattle.fibs_fields.specs.FieldReading.{natural}
 use Rattle.fibs_position.specs.GoodBoard.{IsGood}
 use Rattle.fibs_position.specs.BoardEffect.{value_of, place_says, placed, after_move}
 use Rattle.fibs_rules.proofs.RuleLemmas.CheckerCounts.{count_le, shifted_le, hit_le, hit_place, range_le, places_le}
 use Rattle.fibs_position.proofs.BoardLemmas.SetFields.{may_turn, may_stand, may_off, places_are}
 use Rattle.fibs_position.proofs.BoardLemmas.CountLines.{line_sum}
-use Rattle.fibs_position.proofs.BoardLemmas.ChangedFields.{AllMay, board_after, player_after, may_append, may_range}
-use Rattle.fibs_position.proofs.BoardLemmas.ChangedFields.{field_after, changed, changed_append, unchanged_below}
+use Rattle.fibs_position.proofs.BoardLemmas.ChangedFields.{AllMay, board_after, player_after, may_append, may_range, field_after, changed, changed_append, unchanged_below}
 use Rattle.fibs_position.proofs.BoardLemmas.ViewAfter.{map_range_same, field_low, field_high, same_place_field}
 
 -- the player's colour is one of two

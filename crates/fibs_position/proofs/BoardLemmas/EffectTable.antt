@@ -11,9 +11,7 @@ use Rattle.fibs_position.specs.OwnView.{turn, colour, first_die, second_die, NoD
 use Rattle.fibs_position.specs.GoodBoard.{good}
 use Rattle.fibs_rules.specs.LaxPlays.{lax_of}
 use Rattle.fibs_position.specs.DecisionValue.{DecisionValue, roll, double, accept, reject, move, resign}
-use Rattle.fibs_position.specs.BoardEffect.{IsDie, AreThrown, HasTurn, BeforeRoll, BeforeMove, IsDoubled, rolled}
-use Rattle.fibs_position.specs.BoardEffect.{turn_given, accepted, rejected, after_move, Carries, Effect, is_die}
-use Rattle.fibs_position.specs.BoardEffect.{are_thrown, has_turn, is_doubled, carried, effect_of}
+use Rattle.fibs_position.specs.BoardEffect.{IsDie, AreThrown, HasTurn, BeforeRoll, BeforeMove, IsDoubled, rolled, turn_given, accepted, rejected, after_move, Carries, Effect, is_die, are_thrown, has_turn, is_doubled, carried, effect_of}
 use Rattle.fibs_rules.proofs.RuleLemmas.LaxPlays.{lax_sound, lax_complete}
 use Rattle.fibs_position.proofs.BoardLemmas.GoodTest.{BoardTest, good_tells, good_from}
 

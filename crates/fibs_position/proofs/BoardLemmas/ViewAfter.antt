@@ -7,14 +7,12 @@ use Rattle.fibs_fields.specs.Board.{BoardFields, field_of}
 use Rattle.fibs_fields.specs.FieldRanges.{FieldRanges}
 use Rattle.fibs_position.specs.declared.direction.Direction.TheVariants.{Down, Up}
 use Rattle.fibs_position.specs.DirectionOf.{direction_of, line_place}
-use Rattle.fibs_position.specs.OwnView.{colour, place_field, checkers_of, stand_on, on_places, own_placed, other_placed}
+use Rattle.fibs_position.specs.OwnView.{colour, place_field, checkers_of, stand_on, on_places, own_placed, other_placed, own_off, other_off}
 use Rattle.fibs_fields.specs.FieldReading.{natural}
-use Rattle.fibs_position.specs.OwnView.{own_off, other_off}
 use Rattle.fibs_position.specs.GoodBoard.{IsGood}
 use Rattle.fibs_position.specs.BoardEffect.{set_fields}
 use Rattle.fibs_position.proofs.BoardLemmas.SetFields.{places_are}
-use Rattle.fibs_position.proofs.BoardLemmas.ChangedFields.{AllMay, board_after, player_after, field_after, between}
-use Rattle.fibs_position.proofs.BoardLemmas.ChangedFields.{unchanged_below, unchanged_above}
+use Rattle.fibs_position.proofs.BoardLemmas.ChangedFields.{AllMay, board_after, player_after, field_after, between, unchanged_below, unchanged_above}
 
 -- functions that agree on a range give one list
 pub map_range_same : (f g : ℕ → ℕ) (first long : ℕ) → ((k : ℕ) → first ≤ k → k < first + long → f k ≡ g k)

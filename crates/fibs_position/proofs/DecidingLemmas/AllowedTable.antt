@@ -8,11 +8,9 @@ use Rattle.std.proofs.lemmas.Bool.Decides.{Decides-and, Decides-not, Decides-int
 use Rattle.fibs_position.specs.PositionValue.{PositionValue}
 use Rattle.fibs_position.specs.DecisionValue.{DecisionValue, roll, double, accept, reject, move, resign}
 use Rattle.fibs_position.specs.Phases.{InPhase, decides, phase_in}
-use Rattle.fibs_position.specs.Allowed.{UserDecides, IsForPhase, CubeAllows, IsRightKind, IsLegal, Forbids, reasons}
-use Rattle.fibs_position.specs.Allowed.{IsRefused, MayDecide, is_for, cube_allows, is_legal, forbids, refusal_of}
+use Rattle.fibs_position.specs.Allowed.{UserDecides, IsForPhase, CubeAllows, IsRightKind, IsLegal, Forbids, reasons, IsRefused, MayDecide, is_for, cube_allows, is_legal, forbids, refusal_of}
 use Rattle.fibs_position.specs.declared.phase.Phase.{Phase}
-use Rattle.fibs_position.specs.declared.phase.Phase.TheVariants.{Over, AnswerDouble, OpponentActs, RollOrDouble, Move}
-use Rattle.fibs_position.specs.declared.phase.Phase.TheVariants.{Passing}
+use Rattle.fibs_position.specs.declared.phase.Phase.TheVariants.{Over, AnswerDouble, OpponentActs, RollOrDouble, Move, Passing}
 use Rattle.fibs_position.specs.declared.disallowed.Disallowed.{Disallowed}
 use Rattle.fibs_position.specs.declared.disallowed.Disallowed.TheVariants.{NotYours, WrongKind, IllegalPlay}
 use Rattle.fibs_position.proofs.DecidingLemmas.FirstFit.{find_first}

@@ -1,6 +1,5 @@
 -- The first element of a list for which a fact holds.
-use Rattle.std.proofs.Common.{◌≡◌, Bool, true, false, cond, List, [], ◌∷◌, ◌++◌, ◌⊎◌, inl, inr, Option, Some, sym}
-use Rattle.std.proofs.Common.{ap, refl}
+use Rattle.std.proofs.Common.{◌≡◌, Bool, true, false, cond, List, [], ◌∷◌, ◌++◌, ◌⊎◌, inl, inr, Option, Some, sym, ap, refl}
 use Rattle.std.specs.Prelude.{◌↔◌, find}
 use Rattle.std.specs.Bool.{Decides}
 use Rattle.std.proofs.lemmas.Bool.{false≢true}

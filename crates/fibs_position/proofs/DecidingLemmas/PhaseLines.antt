@@ -5,8 +5,7 @@ use Rattle.std.specs.Ordering.{int_eq}
 use Rattle.std.proofs.lemmas.Bool.Decides.{nat_tests}
 use Rattle.fibs_position.specs.PositionValue.{PositionValue}
 use Rattle.fibs_position.specs.Phases.{phase_in, phase_fits}
-use Rattle.fibs_position.specs.declared.phase.Phase.TheVariants.{Over, AnswerDouble, OpponentActs, RollOrDouble, Move}
-use Rattle.fibs_position.specs.declared.phase.Phase.TheVariants.{Passing}
+use Rattle.fibs_position.specs.declared.phase.Phase.TheVariants.{Over, AnswerDouble, OpponentActs, RollOrDouble, Move, Passing}
 
 -- numbers that are one
 pub same_int : (x y : ℤ) → x ≡ y → int_eq x y ≡ true

@@ -12,8 +12,7 @@ use Rattle.fibs_position.specs.PositionValue.{PositionValue, position_of}
 use Rattle.fibs_rules.specs.Runs.{Standing, CanMove, can_move}
 use Rattle.fibs_position.specs.Phases.{PhaseFits, phases, InPhase, phase_fits, phase_in}
 use Rattle.fibs_position.specs.declared.phase.Phase.{Phase}
-use Rattle.fibs_position.specs.declared.phase.Phase.TheVariants.{Over, AnswerDouble, OpponentActs, RollOrDouble, Move}
-use Rattle.fibs_position.specs.declared.phase.Phase.TheVariants.{Passing}
+use Rattle.fibs_position.specs.declared.phase.Phase.TheVariants.{Over, AnswerDouble, OpponentActs, RollOrDouble, Move, Passing}
 use Rattle.fibs_position.proofs.DecidingLemmas.FirstFit.{find_first, find_some}
 use Rattle.fibs_rules.proofs.SearchLemmas.SomeStep.{can_sound, can_complete}
 

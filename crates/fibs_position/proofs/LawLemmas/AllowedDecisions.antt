@@ -8,8 +8,7 @@ use Rattle.fibs_position.specs.PositionValue.{position_of}
 use Rattle.fibs_position.specs.DecisionValue.{DecisionValue, roll, double, accept, reject, move, resign, IsDecision}
 use Rattle.fibs_position.specs.Phases.{phase_in, decides}
 use Rattle.fibs_position.specs.Allowed.{IsAllowed, refusal_of, forbids}
-use Rattle.fibs_position.specs.Laws.{AllowedDecides, AllowedIsADecision, DecisionsAreValid}
-use Rattle.fibs_position.specs.Laws.{AllowedActs}
+use Rattle.fibs_position.specs.Laws.{AllowedDecides, AllowedIsADecision, DecisionsAreValid, AllowedActs}
 use Rattle.fibs_position.specs.declared.decision.Decision.TheVariants.{Roll, Double, Accept, Reject, Move, Resign}
 use Rattle.fibs_position.specs.declared.disallowed.Disallowed.{Disallowed}
 use Rattle.fibs_position.specs.declared.disallowed.Disallowed.TheVariants as D

@@ -1,7 +1,6 @@
 -- What is allowed is carried out, and what is carried out leaves a good board, which differs; the functions are the
 -- relations.
-use Rattle.std.proofs.Common.{◌≡◌, ◌≢◌, ℕ, ◌≤◌, ◌⊎◌, inl, inr, Bool, true, false, cond, List, [], ◌∷◌, refl, sym, ap}
-use Rattle.std.proofs.Common.{◌∙◌, arith, lit≤}
+use Rattle.std.proofs.Common.{◌≡◌, ◌≢◌, ℕ, ◌≤◌, ◌⊎◌, inl, inr, Bool, true, false, cond, List, [], ◌∷◌, refl, sym, ap, ◌∙◌, arith, lit≤}
 use Rattle.std.specs.Prelude.{ℤ, pos, neg_ℤ, ◌+ℤ◌, ◌≤ℤ◌, ◌==◌, slice_index}
 use Rattle.std.specs.Ordering.{int_eq}
 use Rattle.std.proofs.lemmas.Int.{ints}
@@ -16,13 +15,10 @@ use Rattle.fibs_position.specs.PositionValue.{position_of}
 use Rattle.fibs_position.specs.GamePart.{Differ}
 use Rattle.fibs_position.specs.DecisionValue.{roll, double, accept, reject, move, resign}
 use Rattle.fibs_position.specs.Phases.{PhaseFits, IsPhase}
-use Rattle.fibs_position.specs.BoardEffect.{HasTurn, BeforeRoll, BeforeMove, IsDoubled, rolled, turn_given}
-use Rattle.fibs_position.specs.BoardEffect.{accepted, rejected, after_move}
-use Rattle.fibs_position.specs.Laws.{PhaseIsExact, AllowedIsExact, EffectIsExact, AllowedIsTheUsers}
-use Rattle.fibs_position.specs.Laws.{AllowedIsCarriedOut, EffectIsGood}
+use Rattle.fibs_position.specs.BoardEffect.{HasTurn, BeforeRoll, BeforeMove, IsDoubled, rolled, turn_given, accepted, rejected, after_move}
+use Rattle.fibs_position.specs.Laws.{PhaseIsExact, AllowedIsExact, EffectIsExact, AllowedIsTheUsers, AllowedIsCarriedOut, EffectIsGood}
 use Rattle.fibs_position.specs.declared.phase.Phase.{Phase}
-use Rattle.fibs_position.specs.declared.phase.Phase.TheVariants.{Over, AnswerDouble, OpponentActs, RollOrDouble, Move}
-use Rattle.fibs_position.specs.declared.phase.Phase.TheVariants.{Passing}
+use Rattle.fibs_position.specs.declared.phase.Phase.TheVariants.{Over, AnswerDouble, OpponentActs, RollOrDouble, Move, Passing}
 use Rattle.fibs_position.proofs.BoardLemmas.NumberRanges.{agree_at}
 use Rattle.fibs_position.proofs.BoardLemmas.GamePartGroups.{groups_from_same}
 use Rattle.fibs_rules.proofs.RuleLemmas.LaxPlays.{legal_lax}

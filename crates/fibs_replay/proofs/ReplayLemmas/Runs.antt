@@ -1,7 +1,5 @@
 -- The lines of a script are run on a world, and what they led to is printed.
-use Rattle.std.proofs.Common.{◌≡◌, Bool, true, false, if◌then◌else◌, ℕ, ◌+◌, ◌≤◌, List, [], ◌∷◌, ◌++◌, ◌⊎◌, length}
-use Rattle.std.proofs.Common.{Option, Some, None, Result, Ok, Err, IfOk, refl, ap, sym, ◌∙◌, subst}
-use Rattle.std.proofs.Common.{arith, append_assoc, append-nil, length-append, inl, inr}
+use Rattle.std.proofs.Common.{◌≡◌, Bool, true, false, if◌then◌else◌, ℕ, ◌+◌, ◌≤◌, List, [], ◌∷◌, ◌++◌, ◌⊎◌, length, Option, Some, None, Result, Ok, Err, IfOk, refl, ap, sym, ◌∙◌, subst, arith, append_assoc, append-nil, length-append, inl, inr}
 use Rattle.std.specs.Result.{IsErrOf}
 use Rattle.fibs_fields.specs.Board.{BoardFields, BoardText}
 use Rattle.fibs_position.specs.GoodBoard.{good, IsGood}
@@ -23,9 +21,7 @@ use Rattle.fibs_engine.specs.declared.fault.EngineFault.{EngineFault}
 use Rattle.fibs_engine.specs.declared.fault.EngineFault.TheVariants as fault
 use Rattle.fibs_engine.specs.Printing.{Printed}
 use Rattle.fibs_replay.specs.LogLines.{log_text}
-use Rattle.fibs_replay.specs.Output.{script_login, unread_text, end_text, refused_text, log_after, ReplayText}
-use Rattle.fibs_replay.specs.Output.{refused, to_the_end, LogOf, Replayed}
-use Rattle.fibs_replay.specs.Output.{LoggedInPart, ReplayFailed, ReplayedInPart, ReadWhole, ReadLines}
+use Rattle.fibs_replay.specs.Output.{script_login, unread_text, end_text, refused_text, log_after, ReplayText, refused, to_the_end, LogOf, Replayed, LoggedInPart, ReplayFailed, ReplayedInPart, ReadWhole, ReadLines}
 use Rattle.fibs_replay.specs.Running.{StandsFrom, RanTo, Broke, RunPrinted, PrintedFor}
 use Rattle.fibs_replay.specs.Scripts.{script_limit, script_lines, SayEvents, SayScript}
 use Rattle.fibs_replay.specs.declared.script.Script.TheVariants.{Unreadable}

@@ -1,7 +1,5 @@
 -- The parts of a line that says an event: numbers and boards.
-use Rattle.std.proofs.Common.{◌≡◌, ◌≢◌, ◌↔◌, ℕ, zero, suc, ◌^◌, ◌<◌, ◌≤◌, ◌+◌, ◌==◌, true, List, [], ◌∷◌, ◌++◌}
-use Rattle.std.proofs.Common.{replicate, codes, decimal, map, Option, Some, None, Result, Ok, Err, IfOk, IfSome}
-use Rattle.std.proofs.Common.{option_map, refl, ap, sym, subst, arith}
+use Rattle.std.proofs.Common.{◌≡◌, ◌≢◌, ◌↔◌, ℕ, zero, suc, ◌^◌, ◌<◌, ◌≤◌, ◌+◌, ◌==◌, true, List, [], ◌∷◌, ◌++◌, replicate, codes, decimal, map, Option, Some, None, Result, Ok, Err, IfOk, IfSome, option_map, refl, ap, sym, subst, arith}
 use Rattle.std.specs.List.{starts_with}
 use Rattle.std.proofs.lemmas.Bool.{and_parts}
 use Rattle.std.proofs.lemmas.Fmt.{decimal_digit, decimal-digits_of}
@@ -13,8 +11,7 @@ use Rattle.std.specs.Result.{result_ok}
 use Rattle.fibs_fields.specs.StoredBoard.{fields_of, read_fields}
 use Rattle.fibs_fields.specs.declared.boards.board.Board.{Board}
 use Rattle.fibs_fields.specs.declared.fault.FieldFault.{FieldFault}
-use Rattle.fibs_messages.specs.Line.{ReadingValue, numbered_line, board_line, text_line, malformed_line, IsReading}
-use Rattle.fibs_messages.specs.Line.{IsBoardLine, ReadingIsExact, reading_value}
+use Rattle.fibs_messages.specs.Line.{ReadingValue, numbered_line, board_line, text_line, malformed_line, IsReading, IsBoardLine, ReadingIsExact, reading_value}
 use Rattle.fibs_replay.specs.EventReading.{said_board, board_in}
 use Rattle.fibs_replay.specs.Scripts.{IsNoBoard}
 use Rattle.fibs_replay.proofs.ScriptLemmas.Splits.{Without}

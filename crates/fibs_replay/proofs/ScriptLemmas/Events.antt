@@ -1,6 +1,5 @@
 -- A line is read as an event exactly if it says so.
-use Rattle.std.proofs.Common.{◌≡◌, ℕ, ◌≤◌, Bool, true, false, cond, List, [], ◌∷◌, ◌++◌, codes, decimal, Option, Some}
-use Rattle.std.proofs.Common.{None, option_map, refl, ap, sym, ◌∙◌, subst, arith}
+use Rattle.std.proofs.Common.{◌≡◌, ℕ, ◌≤◌, Bool, true, false, cond, List, [], ◌∷◌, ◌++◌, codes, decimal, Option, Some, None, option_map, refl, ap, sym, ◌∙◌, subst, arith}
 use Rattle.std.specs.Str.{bytes_eq}
 use Rattle.std.proofs.lemmas.Slice.Eq.{bytes_eq-Decides}
 use Rattle.fibs_fields.specs.Decimal.{decimal_up_to}
@@ -9,13 +8,9 @@ use Rattle.fibs_position.specs.declared.direction.Direction.TheVariants.{Down}
 use Rattle.fibs_commands.specs.CommandReading.{read_command}
 use Rattle.fibs_commands.specs.CommandLaws.{ReadCommandIsExact, ReadPlainIsExact}
 use Rattle.fibs_commands.specs.PlainReading.{TextField, no_text, rest_of_line, read_plain}
-use Rattle.fibs_model.specs.Events.{Event, Open, Click, Plain, Deliver, Lose, Serve}
-use Rattle.fibs_model.specs.Events.{Own, Repeat, Text, Order, Withdraw}
-use Rattle.fibs_replay.specs.EventLines.{SaysEvent, says_open, says_click, says_plain, says_deliver, says_lose}
-use Rattle.fibs_replay.specs.EventLines.{says_serve, says_own, says_repeat, says_text, says_order}
-use Rattle.fibs_replay.specs.EventLines.{says_withdraw, count_limit, die_limit}
-use Rattle.fibs_replay.specs.EventReading.{◌>>=◌, alone_in, board_in, serving_in, joined_in, event_of_word}
-use Rattle.fibs_replay.specs.EventReading.{of_roll, event_in, EventsAreExact}
+use Rattle.fibs_model.specs.Events.{Event, Open, Click, Plain, Deliver, Lose, Serve, Own, Repeat, Text, Order, Withdraw}
+use Rattle.fibs_replay.specs.EventLines.{SaysEvent, says_open, says_click, says_plain, says_deliver, says_lose, says_serve, says_own, says_repeat, says_text, says_order, says_withdraw, count_limit, die_limit}
+use Rattle.fibs_replay.specs.EventReading.{◌>>=◌, alone_in, board_in, serving_in, joined_in, event_of_word, of_roll, event_in, EventsAreExact}
 use Rattle.fibs_replay.proofs.ScriptLemmas.Splits.{from, before_and_from, split_there}
 use Rattle.fibs_replay.proofs.ScriptLemmas.EventTexts.{DecimalsAreExact, BoardsAreExact, number_apart}
 

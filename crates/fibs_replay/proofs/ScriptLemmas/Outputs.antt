@@ -1,7 +1,5 @@
 -- A text is written in portions.
-use Rattle.std.proofs.Common.{◌≡◌, ℕ, ◌+◌, ◌<◌, ◌≤◌, List, [], ◌∷◌, ◌++◌, length, map, take, drop, get_or, Option, refl}
-use Rattle.std.proofs.Common.{sym, ap, ◌∙◌, subst, append_assoc, append-nil, take_all, take-append-drop, Result, Ok}
-use Rattle.std.proofs.Common.{Err}
+use Rattle.std.proofs.Common.{◌≡◌, ℕ, ◌+◌, ◌<◌, ◌≤◌, List, [], ◌∷◌, ◌++◌, length, map, take, drop, get_or, Option, refl, sym, ap, ◌∙◌, subst, append_assoc, append-nil, take_all, take-append-drop, Result, Ok, Err}
 use Rattle.std.specs.Prelude.{⊤, IsErrAnd}
 use Rattle.std.proofs.lemmas.Grind.{flat_map-append}
 use Rattle.std.proofs.lemmas.List.{map-append, take_more}
@@ -12,10 +10,9 @@ use Rattle.fibs_model.specs.EntryOf.{entry_of}
 use Rattle.fibs_model.specs.declared.entry.Entry.{Entry}
 use Rattle.fibs_engine.specs.Printing.{line_bytes}
 use Rattle.fibs_replay.specs.LogLines.{entry_line, log_text}
-use Rattle.fibs_engine.specs.Writing.{GainedFront, Wrote, progress_of}
+use Rattle.fibs_engine.specs.Writing.{GainedFront, Wrote, progress_of, Progress, Whole, Broken}
 use Rattle.fibs_engine.specs.declared.writing.Unwritten as declared
 use Rattle.fibs_replay.specs.Passing.{Passed}
-use Rattle.fibs_engine.specs.Writing.{Progress, Whole, Broken}
 
 -- after a failed write the answer says so
 pub broken_on : (Holds : Progress → Type 0) (r : Result ⊤ declared.Unwritten) (v : declared.Unwritten)

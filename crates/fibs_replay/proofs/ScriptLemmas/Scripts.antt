@@ -1,14 +1,12 @@
 -- The lines of a script are read one after another.
-use Rattle.std.proofs.Common.{◌≡◌, ◌↔◌, ℕ, ◌+◌, true, List, [], ◌∷◌, ◌++◌, length, Option, Some, None, option_map, refl}
-use Rattle.std.proofs.Common.{ap, sym, ◌∙◌, subst, arith, append_assoc, length-append}
+use Rattle.std.proofs.Common.{◌≡◌, ◌↔◌, ℕ, ◌+◌, true, List, [], ◌∷◌, ◌++◌, length, Option, Some, None, option_map, refl, ap, sym, ◌∙◌, subst, arith, append_assoc, length-append}
 use Rattle.std.specs.Option.{is_some}
 use Rattle.fibs_fields.specs.Board.{BoardFields, BoardText}
 use Rattle.fibs_model.specs.EventOf.{event_of}
 use Rattle.fibs_model.specs.Events.{Event}
 use Rattle.fibs_model.specs.declared.event.Event.{Event as ProgramEvent}
 use Rattle.fibs_replay.specs.EventLines.{SaysEvent}
-use Rattle.fibs_replay.specs.Scripts.{SayEvents, IsNoBoard, FirstUnreadable, no_line, no_board, no_event}
-use Rattle.fibs_replay.specs.Scripts.{ReadsScript, ReadsEvents}
+use Rattle.fibs_replay.specs.Scripts.{SayEvents, IsNoBoard, FirstUnreadable, no_line, no_board, no_event, ReadsScript, ReadsEvents}
 
 -- what `read_event` says of a line
 abbrev pub ReadsLine : Option ProgramEvent → List ℕ → Type 0

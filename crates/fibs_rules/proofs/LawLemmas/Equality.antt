@@ -1,7 +1,6 @@
 -- Steps are given by their places, and plays by their steps.
 use mathlib.Core.HLevel.{is_prop→PathP}
-use Rattle.std.proofs.Common.{◌≡◌, ℕ, ◌<◌, ◌≤◌, List, [], ◌∷◌, ◌++◌, length, map, take, drop, Bool, true, refl, sym, ap}
-use Rattle.std.proofs.Common.{ap₂, ◌∙◌, arith, eq-eqb, take-append-drop, length-take-le, length-drop}
+use Rattle.std.proofs.Common.{◌≡◌, ℕ, ◌<◌, ◌≤◌, List, [], ◌∷◌, ◌++◌, length, map, take, drop, Bool, true, refl, sym, ap, ap₂, ◌∙◌, arith, eq-eqb, take-append-drop, length-take-le, length-drop}
 use Rattle.std.specs.Prelude.{◌==◌, ◌&&◌}
 use Rattle.std.specs.Bool.{Decides}
 use Rattle.std.specs.Coded.{le_prop, Coded-set, coded_bool, coded_ℕ}

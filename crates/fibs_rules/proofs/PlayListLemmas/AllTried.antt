@@ -1,13 +1,9 @@
 -- The runs that are tried are legal, and each arrangement that a legal play reaches is reached by the greatest such
 -- play.
-use Rattle.std.proofs.Common.{◌≡◌, ◌≢◌, ◌⊎◌, ◌<◌, ℕ, ◌≤◌, inl, inr, max, List}
-use Rattle.std.proofs.Common.{[], ◌∷◌, ◌++◌, length, take, drop, Bool, true}
-use Rattle.std.proofs.Common.{false, refl, sym, ap, subst, ◌∙◌, arith, cond, eq-eqb}
-use Rattle.std.proofs.Common.{length-append, length-take-le, take-append-drop, take_all}
+use Rattle.std.proofs.Common.{◌≡◌, ◌≢◌, ◌⊎◌, ◌<◌, ℕ, ◌≤◌, inl, inr, max, List, [], ◌∷◌, ◌++◌, length, take, drop, Bool, true, false, refl, sym, ap, subst, ◌∙◌, arith, cond, eq-eqb, length-append, length-take-le, take-append-drop, take_all}
 use Rattle.std.specs.Prelude.{◌&&◌, ◌==◌}
 use Rattle.std.specs.Ordering.{is_gt}
-use Rattle.std.proofs.lemmas.Bool.{and_parts, and_from, or_left, or_right, cond-true, cond-false, eqb-true}
-use Rattle.std.proofs.lemmas.Bool.{both_ways, cond_both}
+use Rattle.std.proofs.lemmas.Bool.{and_parts, and_from, or_left, or_right, cond-true, cond-false, eqb-true, both_ways, cond_both}
 use Rattle.std.proofs.Math.Seq.{take-append_seam}
 use Rattle.fibs_rules.specs.Hop.{Hop}
 use Rattle.fibs_rules.specs.Checkers.{Checkers, moved}
@@ -15,16 +11,12 @@ use Rattle.fibs_rules.specs.Runs.{Run, RunOf, Standing, held, held_of, most_of, 
 use Rattle.fibs_rules.specs.LegalPlays.{Leads, are_two, larger_first, play_cmp}
 use Rattle.fibs_rules.specs.Search.{AreDice, Reach, reaches, all_in_order, all_of}
 use Rattle.fibs_rules.proofs.SearchLemmas.LongestRuns.{longest-reached, run_long}
-use Rattle.fibs_rules.proofs.RuleLemmas.DiceParts.{IsFront, front_from_part, part_from_held, part_from_swapped}
-use Rattle.fibs_rules.proofs.RuleLemmas.DiceParts.{dice_held, held_long, alike}
+use Rattle.fibs_rules.proofs.RuleLemmas.DiceParts.{IsFront, front_from_part, part_from_held, part_from_swapped, dice_held, held_long, alike}
 use Rattle.fibs_rules.proofs.SearchLemmas.FollowSteps.{dice_front}
-use Rattle.fibs_rules.proofs.SearchLemmas.LegalTest.{follows_complete, legal_sound, legal_complete, two_is}
-use Rattle.fibs_rules.proofs.SearchLemmas.LegalTest.{larger_from, part_of_larger, playable, in_order, two_from}
+use Rattle.fibs_rules.proofs.SearchLemmas.LegalTest.{follows_complete, legal_sound, legal_complete, two_is, larger_from, part_of_larger, playable, in_order, two_from}
 use Rattle.fibs_rules.proofs.PlayListLemmas.PlayOrder.{itself}
-use Rattle.fibs_rules.proofs.PlayListLemmas.Reaches.{In, in_left, in_right, in_cases, Falls, reaches_sound}
-use Rattle.fibs_rules.proofs.PlayListLemmas.Reaches.{reaches_complete}
-use Rattle.fibs_rules.proofs.PlayListLemmas.FallingPlays.{AllAre, front_all, held_alike, falls_alike}
-use Rattle.fibs_rules.proofs.PlayListLemmas.FallingPlays.{two_fall, two_held}
+use Rattle.fibs_rules.proofs.PlayListLemmas.Reaches.{In, in_left, in_right, in_cases, Falls, reaches_sound, reaches_complete}
+use Rattle.fibs_rules.proofs.PlayListLemmas.FallingPlays.{AllAre, front_all, held_alike, falls_alike, two_fall, two_held}
 use Rattle.fibs_rules.proofs.RuleLemmas.HighestFirst.{fallen, front_dice}
 
 -- the arrangement after these steps

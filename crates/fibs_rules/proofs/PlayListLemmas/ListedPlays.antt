@@ -1,6 +1,5 @@
 -- The plays that are kept, sorted, are the list of plays of the rules.
-use Rattle.std.proofs.Common.{◌≡◌, ◌+◌, ◌<◌, ◌≤◌, inl, inr, List, [], ◌∷◌, length, map, get_or, Option, Some, None}
-use Rattle.std.proofs.Common.{true, false, refl, sym, ap, subst, ◌∙◌, arith}
+use Rattle.std.proofs.Common.{◌≡◌, ◌+◌, ◌<◌, ◌≤◌, inl, inr, List, [], ◌∷◌, length, map, get_or, Option, Some, None, true, false, refl, sym, ap, subst, ◌∙◌, arith}
 use Rattle.std.specs.Prelude.{option_map}
 use Rattle.std.specs.declared.cmp.Ordering.TheVariants.{Greater}
 use Rattle.std.specs.List.{fold, Contains, IsDistinct, AllAdjacentBelow}
@@ -25,8 +24,7 @@ use Rattle.fibs_rules.specs.declared.reached.Reached.{Reached}
 use Rattle.fibs_rules.specs.Checkers.{Checkers}
 use Rattle.fibs_rules.specs.Runs.{Run, Standing}
 use Rattle.fibs_rules.specs.LegalPlays.{play_cmp, Leads, IsGreatest, PlayList}
-use Rattle.fibs_rules.proofs.PlayListLemmas.PlayOrder.{play_total, not_greater, gt_from, play_same, above, level}
-use Rattle.fibs_rules.proofs.PlayListLemmas.PlayOrder.{level_flips, level_same}
+use Rattle.fibs_rules.proofs.PlayListLemmas.PlayOrder.{play_total, not_greater, gt_from, play_same, above, level, level_flips, level_same}
 use Rattle.fibs_rules.proofs.PlayListLemmas.KeptPlays.{NoLess, all_from, all_have}
 use Rattle.fibs_rules.proofs.PlayListLemmas.AllTried.{reach, all_sound, all_complete, run_one}
 

@@ -1,6 +1,5 @@
 -- Plays as the server carries them out: the function is the relation, and each legal play is carried out.
-use Rattle.std.proofs.Common.{suc, ◌+◌, ◌≡◌, ℕ, ◌<◌, ◌≤◌, inl, inr, List, [], ◌∷◌, length, map, drop, get_or, Option}
-use Rattle.std.proofs.Common.{Some, None, Bool, refl, sym, ap, subst, ◌∙◌, drop-cons, add-one}
+use Rattle.std.proofs.Common.{suc, ◌+◌, ◌≡◌, ℕ, ◌<◌, ◌≤◌, inl, inr, List, [], ◌∷◌, length, map, drop, get_or, Option, Some, None, Bool, refl, sym, ap, subst, ◌∙◌, drop-cons, add-one}
 use Rattle.std.proofs.lemmas.List.{drop_all}
 use Rattle.std.specs.Prelude.{◌&&◌, ◌||◌, ◌==◌, nat_lt, slice_index}
 use Rattle.std.proofs.lemmas.Bool.{and_parts, and_from, cond-true, ltb-true, lt-ltb}

@@ -1,12 +1,9 @@
 -- One checker by one die: the function is the relation.
-use Rattle.std.proofs.Common.{◌≡◌, ℕ, suc, zero, ◌+◌, ◌-◌, ◌<◌, ◌≤◌, ◌⊎◌, inl, inr, Bool, true, false, cond, eq-eqb}
-use Rattle.std.proofs.Common.{List, [], ◌∷◌, get_or, drop, Some, None, refl, sym, ap, ◌∙◌, arith, get_or-drop}
+use Rattle.std.proofs.Common.{◌≡◌, ℕ, suc, zero, ◌+◌, ◌-◌, ◌<◌, ◌≤◌, ◌⊎◌, inl, inr, Bool, true, false, cond, eq-eqb, List, [], ◌∷◌, get_or, drop, Some, None, refl, sym, ap, ◌∙◌, arith, get_or-drop}
 use Rattle.std.specs.Prelude.{◌&&◌, ◌||◌, ◌==◌, nat_lt, nat_le, slice_index}
 use Rattle.std.specs.List.{list_all}
 use Rattle.std.proofs.lemmas.Bool.Decides.{nat_tests}
-use Rattle.std.proofs.lemmas.Bool.{and_parts, or_cases, and_from, or_left, or_right, cases_eq, cases_lt, ltb-true}
-use Rattle.std.proofs.lemmas.Bool.{ltb-false, eqb-true, lt-ltb, le-ltb, le-leb, leb-true, both_ways, cond-true}
-use Rattle.std.proofs.lemmas.Bool.{cond-false}
+use Rattle.std.proofs.lemmas.Bool.{and_parts, or_cases, and_from, or_left, or_right, cases_eq, cases_lt, ltb-true, ltb-false, eqb-true, lt-ltb, le-ltb, le-leb, leb-true, both_ways, cond-true, cond-false}
 use Rattle.fibs_rules.specs.Checkers.{Checkers, IsOpen, AllHome, moved, is_empty_from}
 use Rattle.fibs_rules.specs.OneChecker.{One, Enters, Moves, BearsOff, BearsOffHighest, is_source, can_leave, one_of}
 

@@ -1,21 +1,16 @@
 -- The test of a play is the rule of legal plays.
-use Rattle.std.proofs.Common.{◌≡◌, ◌≢◌, ℕ, ◌-◌, ◌<◌, ◌≤◌, inl, inr, max, List, [], ◌∷◌, ◌++◌, length, Option, Some}
-use Rattle.std.proofs.Common.{None, Bool, true, refl, sym, ap, subst, ◌∙◌, arith, cond, eq-eqb}
+use Rattle.std.proofs.Common.{◌≡◌, ◌≢◌, ℕ, ◌-◌, ◌<◌, ◌≤◌, inl, inr, max, List, [], ◌∷◌, ◌++◌, length, Option, Some, None, Bool, true, refl, sym, ap, subst, ◌∙◌, arith, cond, eq-eqb}
 use Rattle.std.specs.Prelude.{◌&&◌, ◌||◌, ◌==◌, not, nat_lt}
-use Rattle.std.proofs.lemmas.Bool.{cases_lt, and_parts, and_from, or_cases, or_left, or_right, both_ways, eqb-true}
-use Rattle.std.proofs.lemmas.Bool.{eqb-false, ltb-true, lt-ltb, ne_eqb, cond-true, cond-false, cases_Bool, not-true}
-use Rattle.std.proofs.lemmas.Bool.{not_from_false, false≢true}
+use Rattle.std.proofs.lemmas.Bool.{cases_lt, and_parts, and_from, or_cases, or_left, or_right, both_ways, eqb-true, eqb-false, ltb-true, lt-ltb, ne_eqb, cond-true, cond-false, cases_Bool, not-true, not_from_false, false≢true}
 use Rattle.fibs_rules.specs.Hop.{Hop}
 use Rattle.fibs_rules.specs.Checkers.{Checkers}
 use Rattle.fibs_rules.specs.OneChecker.{One, one_of}
-use Rattle.fibs_rules.specs.Runs.{Run, RunOf, IsPart, CanPlay, Standing, held, held_of, longest, most_of, follows}
-use Rattle.fibs_rules.specs.Runs.{passes, can_play}
+use Rattle.fibs_rules.specs.Runs.{Run, RunOf, IsPart, CanPlay, Standing, held, held_of, longest, most_of, follows, passes, can_play}
 use Rattle.fibs_rules.specs.LegalPlays.{IsLarger, LegalPlay, are_two, larger_first, legal_of}
 use Rattle.fibs_rules.specs.Search.{AreDice}
 use Rattle.fibs_rules.proofs.RuleLemmas.OneChecker.{one_sound, one_complete, chosen_true}
 use Rattle.fibs_rules.proofs.SearchLemmas.LongestRuns.{longest-most, longest-reached}
-use Rattle.fibs_rules.proofs.RuleLemmas.DiceParts.{IsFront, front_from_part, part_from_held, part_from_swapped}
-use Rattle.fibs_rules.proofs.RuleLemmas.DiceParts.{dice_held, two_held}
+use Rattle.fibs_rules.proofs.RuleLemmas.DiceParts.{IsFront, front_from_part, part_from_held, part_from_swapped, dice_held, two_held}
 use Rattle.fibs_rules.proofs.SearchLemmas.MostDice.{most_is}
 
 -- a run of these steps by a front of these dice

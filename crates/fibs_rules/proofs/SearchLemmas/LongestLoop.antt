@@ -1,6 +1,5 @@
 -- The loop that looks for the most dice that can be played.
-use Rattle.std.proofs.Common.{take, take_all, length-drop, ◌≡◌, ℕ, suc, ◌+◌, ◌-◌, ◌<◌, ◌≤◌, max, List, [], ◌∷◌, length}
-use Rattle.std.proofs.Common.{get_or, drop, Some, None, refl, sym, ap, ◌∙◌, arith, add-one}
+use Rattle.std.proofs.Common.{take, take_all, length-drop, ◌≡◌, ℕ, suc, ◌+◌, ◌-◌, ◌<◌, ◌≤◌, max, List, [], ◌∷◌, length, get_or, drop, Some, None, refl, sym, ap, ◌∙◌, arith, add-one}
 use Rattle.fibs_rules.specs.Checkers.{Checkers}
 use Rattle.fibs_rules.specs.OneChecker.{one_of}
 use Rattle.fibs_rules.specs.Runs.{best_of, score}

@@ -5,8 +5,7 @@ use Rattle.fibs_rules.specs.Hop.{Hop}
 use Rattle.fibs_rules.specs.Checkers.{Checkers}
 use Rattle.fibs_rules.specs.Runs.{Run, RunOf, Standing, held, held_of, IsMost, longest, most_of}
 use Rattle.fibs_rules.proofs.SearchLemmas.LongestRuns.{longest-most, longest-reached, Reached}
-use Rattle.fibs_rules.proofs.RuleLemmas.DiceParts.{IsFront, front_from_part, part_from_held, part_from_swapped}
-use Rattle.fibs_rules.proofs.RuleLemmas.DiceParts.{dice_held}
+use Rattle.fibs_rules.proofs.RuleLemmas.DiceParts.{IsFront, front_from_part, part_from_held, part_from_swapped, dice_held}
 
 -- no run by a front of dice is longer than the most of them
 front_most : (p q : Checkers) (dice all : List ℕ) (steps : List Hop) → IsFront dice all → Run p dice steps q

@@ -1,6 +1,5 @@
 -- From the session to the client, for each call.
-use Rattle.std.proofs.Common.{◌≡◌, ℕ, Bool, true, false, List, [], ◌∷◌, Option, Some, None, if◌then◌else◌, refl, sym}
-use Rattle.std.proofs.Common.{◌∙◌, ap, subst}
+use Rattle.std.proofs.Common.{◌≡◌, ℕ, Bool, true, false, List, [], ◌∷◌, Option, Some, None, if◌then◌else◌, refl, sym, ◌∙◌, ap, subst}
 use Rattle.fibs_lines.specs.LinesValue.{LinesValue, StandsAfter as LinesStandAfter}
 use Rattle.fibs_fields.specs.Board.{BoardFields}
 use Rattle.fibs_position.specs.DecisionValue.{DecisionValue}
@@ -10,10 +9,7 @@ use Rattle.fibs_session.specs.declared.histories.refusal.Refusal.TheVariants.{Al
 use Rattle.fibs_session.specs.declared.histories.refusal.PlainRefusal.{PlainRefusal}
 use Rattle.fibs_session.specs.History.Log.{Lost, Entry, Ordered, Withdrawn}
 use Rattle.fibs_session.specs.History.Words.{last, open_now, shown}
-use Rattle.fibs_session.specs.History.Machine.{Talk, InputValue, Open, Lose, Click, PlainInput, step, stays, does}
-use Rattle.fibs_session.specs.History.Machine.{is_online, opened, opens, open_refusal, unconfirmed_now, clicks_by}
-use Rattle.fibs_session.specs.History.Machine.{decides_on, answer_now, sends_plain, plain_refusal, Order, Withdraw}
-use Rattle.fibs_session.specs.History.Machine.{order_refusal, withdraw_refusal, notes_if}
+use Rattle.fibs_session.specs.History.Machine.{Talk, InputValue, Open, Lose, Click, PlainInput, step, stays, does, is_online, opened, opens, open_refusal, unconfirmed_now, clicks_by, decides_on, answer_now, sends_plain, plain_refusal, Order, Withdraw, order_refusal, withdraw_refusal, notes_if}
 use Rattle.fibs_session.specs.Calls.SessionValue.{SessionValue}
 use Rattle.fibs_session.specs.Calls.Standing.{SessionStandsAfter, ClientValue, StandsAfter}
 use Rattle.fibs_session.specs.Calls.Doing.{SessionDoes, Does}

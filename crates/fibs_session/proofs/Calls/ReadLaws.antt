@@ -1,21 +1,17 @@
 -- A piece that is read is an input of the machine.
-use Rattle.std.proofs.Common.{◌≡◌, ℕ, Bool, true, false, List, length, take, drop, Option, Some, None, if◌then◌else◌}
-use Rattle.std.proofs.Common.{option_map, refl, sym, ◌∙◌, ap, subst, append-nil}
+use Rattle.std.proofs.Common.{◌≡◌, ℕ, Bool, true, false, List, length, take, drop, Option, Some, None, if◌then◌else◌, option_map, refl, sym, ◌∙◌, ap, subst, append-nil}
 use Rattle.std.proofs.Math.Seq.{drop-append_seam}
 use Rattle.fibs_lines.specs.Lines.{ReadLine, lines_of}
 use Rattle.fibs_lines.specs.LinesValue.{StandsAfter as LinesStandAfter}
 use Rattle.fibs_session.specs.History.Hearing.{nothing_heard, line_reading}
 use Rattle.fibs_session.specs.History.Words.{Ask}
-use Rattle.fibs_session.specs.History.Machine.{Talk, Piece, stays, is_online, reads, hears, hears_all, heard_by}
-use Rattle.fibs_session.specs.History.Machine.{line_heard, with_bytes, gained}
+use Rattle.fibs_session.specs.History.Machine.{Talk, Piece, stays, is_online, reads, hears, hears_all, heard_by, line_heard, with_bytes, gained}
 use Rattle.fibs_session.specs.Calls.SessionValue.{SessionValue}
 use Rattle.fibs_session.specs.Calls.SessionOf.{TakenValue, ask_of}
 use Rattle.fibs_session.specs.Calls.ClientOf.{answer_commands, commands_in}
 use Rattle.fibs_session.specs.Calls.Standing.{SessionStandsAfter, ClientValue, StandsAfter}
 use Rattle.fibs_session.specs.Calls.Doing.{Does}
-use Rattle.fibs_session.specs.Calls.Feeding.{in_list, Gains, AnswersLine, ReadsPiece, line_confirms, KeepsLine, Keeps}
-use Rattle.fibs_session.specs.Calls.Feeding.{ShowsLine, Shows, commands_of, confirmed_of_taken, line_of_taken}
-use Rattle.fibs_session.specs.Calls.Feeding.{ReadsItself, FeedAnswers, line_rolls, rolled_of_taken}
+use Rattle.fibs_session.specs.Calls.Feeding.{in_list, Gains, AnswersLine, ReadsPiece, line_confirms, KeepsLine, Keeps, ShowsLine, Shows, commands_of, confirmed_of_taken, line_of_taken, ReadsItself, FeedAnswers, line_rolls, rolled_of_taken}
 use Rattle.fibs_session.specs.declared.client.heard_line.Answer.{Answer}
 use Rattle.fibs_session.specs.declared.client.heard_line.HeardLine.{HeardLine}
 use Rattle.fibs_session.proofs.Calls.SessionLaws.{online_is}

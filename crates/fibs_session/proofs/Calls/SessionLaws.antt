@@ -1,6 +1,5 @@
 -- From the fields to the history, for each call of a session.
-use Rattle.std.proofs.Common.{◌≡◌, ℕ, Bool, true, false, List, [], ◌∷◌, Option, Some, None, is_some, if◌then◌else◌}
-use Rattle.std.proofs.Common.{refl, sym, ◌∙◌, ap, subst}
+use Rattle.std.proofs.Common.{◌≡◌, ℕ, Bool, true, false, List, [], ◌∷◌, Option, Some, None, is_some, if◌then◌else◌, refl, sym, ◌∙◌, ap, subst}
 use Rattle.fibs_lines.specs.Lines.{ReadLine}
 use Rattle.fibs_position.specs.DecisionValue.{DecisionValue}
 use Rattle.fibs_position.specs.GamePart.{same_game}
@@ -11,23 +10,14 @@ use Rattle.fibs_session.specs.declared.histories.refusal.PlainRefusal.{PlainRefu
 use Rattle.fibs_session.specs.History.Log.{Lost}
 use Rattle.fibs_session.specs.History.Words.{Ask, IsLikeness, last, open_now, shown, unconfirmed}
 use Rattle.fibs_session.specs.History.Hearing.{nothing_heard, line_reading}
-use Rattle.fibs_session.specs.History.Machine.{Talk, Outcome, Open, Lose, Click, PlainInput, start, stays, does, is_online}
-use Rattle.fibs_session.specs.History.Machine.{opened, opens, open_refusal, loses, unconfirmed_now, clicks, plains}
-use Rattle.fibs_session.specs.History.Machine.{answer_now, plain_refusal, heard_by, line_heard, hears, shown_now}
-use Rattle.fibs_session.specs.History.Machine.{ordered_now, Order, Withdraw, order_refusal, withdraw_refusal, orders_on}
-use Rattle.fibs_session.specs.History.Machine.{withdraws}
+use Rattle.fibs_session.specs.History.Machine.{Talk, Outcome, Open, Lose, Click, PlainInput, start, stays, does, is_online, opened, opens, open_refusal, loses, unconfirmed_now, clicks, plains, answer_now, plain_refusal, heard_by, line_heard, hears, shown_now, ordered_now, Order, Withdraw, order_refusal, withdraw_refusal, orders_on, withdraws}
 use Rattle.fibs_session.specs.Calls.SessionValue.{SessionValue, IsNoToggle, At}
-use Rattle.fibs_session.specs.Calls.FieldSteps.{fresh, lost, unheard, line_fields, heard_fields, answer_of, with_ask}
-use Rattle.fibs_session.specs.Calls.FieldSteps.{open_fields, open_send, open_refusal_of, lose_fields, decide_fields}
-use Rattle.fibs_session.specs.Calls.FieldSteps.{decide_send, command_for, plain_refusal_of, with_plain, plain_fields}
-use Rattle.fibs_session.specs.Calls.FieldSteps.{plain_send, order_refusal_of, withdraw_refusal_of, with_order}
+use Rattle.fibs_session.specs.Calls.FieldSteps.{fresh, lost, unheard, line_fields, heard_fields, answer_of, with_ask, open_fields, open_send, open_refusal_of, lose_fields, decide_fields, decide_send, command_for, plain_refusal_of, with_plain, plain_fields, plain_send, order_refusal_of, withdraw_refusal_of, with_order}
 use Rattle.fibs_commands.specs.Logins.{login_text}
 use Rattle.fibs_session.specs.Calls.Standing.{SessionStandsAfter}
 use Rattle.fibs_session.specs.Calls.Doing.{SessionDoes, SessionHears}
 use Rattle.fibs_session.proofs.History.Fields.{at_start, online_law, at_opened, at_lost, unheard_law, answer_law}
-use Rattle.fibs_session.proofs.History.Steps.{HeardIs, heard_law, refused_law, sent_law, plain_law, plain_sent_law}
-use Rattle.fibs_session.proofs.History.Steps.{plain_refused_law, ordered_law, order_refusal_law, withdraw_refusal_law}
-use Rattle.fibs_session.proofs.History.Steps.{order_law, withdraw_law}
+use Rattle.fibs_session.proofs.History.Steps.{HeardIs, heard_law, refused_law, sent_law, plain_law, plain_sent_law, plain_refused_law, ordered_law, order_refusal_law, withdraw_refusal_law, order_law, withdraw_law}
 
 -- a choice of two sessions is at the same choice of two steps if each is
 both : (b : Bool) (v w : SessionValue) (s u : Outcome)

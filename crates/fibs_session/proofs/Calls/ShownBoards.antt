@@ -1,6 +1,5 @@
 -- The steps by which a board is shown, and what they come to.
-use Rattle.std.proofs.Common.{◌≡◌, ℕ, Bool, true, false, not, List, Option, None, Some, is_some, if◌then◌else◌}
-use Rattle.std.proofs.Common.{refl, sym, ap, ◌∙◌}
+use Rattle.std.proofs.Common.{◌≡◌, ℕ, Bool, true, false, not, List, Option, None, Some, is_some, if◌then◌else◌, refl, sym, ap, ◌∙◌}
 use Rattle.std.proofs.lemmas.Option.{none-some}
 use Rattle.fibs_fields.specs.Board.{BoardFields}
 use Rattle.fibs_position.specs.GamePart.{same_game}
@@ -10,8 +9,7 @@ use Rattle.fibs_position.specs.DirectionOf.{direction_of}
 use Rattle.fibs_commands.specs.Commands.{command_of}
 use Rattle.fibs_session.specs.History.Words.{Ask, one_if}
 use Rattle.fibs_session.specs.Calls.SessionValue.{SessionValue}
-use Rattle.fibs_session.specs.Calls.FieldSteps.{still_waiting, differs_from, with_shown, settled}
-use Rattle.fibs_session.specs.Calls.FieldSteps.{with_board, due_now, with_roll, board_fields}
+use Rattle.fibs_session.specs.Calls.FieldSteps.{still_waiting, differs_from, with_shown, settled, with_board, due_now, with_roll, board_fields}
 
 -- a decision that goes on waiting is not confirmed, and none can be if none waits
 goes_on : (waiting : Option Ask) → None ≡ (if is_some waiting then None else waiting)

@@ -1,6 +1,5 @@
 -- When a standing order is due.
-use Rattle.std.proofs.Common.{◌≡◌, ◌∷◌, [], ◌++◌, ℕ, true, List, Option, Some, None, is_none, refl, sym, ◌∙◌, ap}
-use Rattle.std.proofs.Common.{true≢false}
+use Rattle.std.proofs.Common.{◌≡◌, ◌∷◌, [], ◌++◌, ℕ, true, List, Option, Some, None, is_none, refl, sym, ◌∙◌, ap, true≢false}
 use Rattle.std.specs.Prelude.{pos}
 use Rattle.std.specs.Ordering.{int_eq}
 use Rattle.std.proofs.lemmas.Bool.Decides.{Decides-int_eq}

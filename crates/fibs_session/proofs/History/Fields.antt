@@ -1,7 +1,5 @@
 -- The fields of a session are what its history says.
-use Rattle.std.proofs.Common.{◌≡◌, ◌≤◌, ℕ, zero, suc, Bool, true, false, not, List, [], ◌∷◌, ◌++◌, Option, Some, None}
-use Rattle.std.proofs.Common.{is_some, if◌then◌else◌, nat_eq, flat_map, refl, sym, ◌∙◌, ap, subst, inl, inr}
-use Rattle.std.proofs.Common.{append_assoc, append-nil, arith, true≢false}
+use Rattle.std.proofs.Common.{◌≡◌, ◌≤◌, ℕ, zero, suc, Bool, true, false, not, List, [], ◌∷◌, ◌++◌, Option, Some, None, is_some, if◌then◌else◌, nat_eq, flat_map, refl, sym, ◌∙◌, ap, subst, inl, inr, append_assoc, append-nil, arith, true≢false}
 use Rattle.std.proofs.lemmas.Bool.{cases_Bool}
 use Rattle.fibs_fields.specs.Board.{BoardFields as Board}
 use Rattle.fibs_position.specs.DecisionValue.{DecisionValue as Decision, roll}
@@ -10,25 +8,17 @@ use Rattle.fibs_commands.specs.Commands.{command_of}
 use Rattle.fibs_position.specs.GamePart.{same_game}
 use Rattle.fibs_commands.specs.PlainCommands.{automove_off, greedy_off, plain_of}
 use Rattle.fibs_session.specs.declared.histories.refusal.Refusal.{Refusal}
-use Rattle.fibs_session.specs.History.Log.{Entry, Flags, Opened, Welcomed, Informed, Shown, Clicked, Sent, Lost}
-use Rattle.fibs_session.specs.History.Log.{Ordered, Withdrawn}
-use Rattle.fibs_session.specs.History.Words.{Ask, is_empty, last, open_now, opened_by, connections, shown, sent}
-use Rattle.fibs_session.specs.History.Words.{welcomed, informed, welcomed_by, informed_by, shown_by, sent_by, is_spent}
-use Rattle.fibs_session.specs.History.Words.{unconfirmed, IsLikeness, open_from, orders, orders_by, is_given}
+use Rattle.fibs_session.specs.History.Log.{Entry, Flags, Opened, Welcomed, Informed, Shown, Clicked, Sent, Lost, Ordered, Withdrawn}
+use Rattle.fibs_session.specs.History.Words.{Ask, is_empty, last, open_now, opened_by, connections, shown, sent, welcomed, informed, welcomed_by, informed_by, shown_by, sent_by, is_spent, unconfirmed, IsLikeness, open_from, orders, orders_by, is_given}
 use Rattle.fibs_session.specs.History.Hearing.{confirmed_by_board}
 use Rattle.fibs_session.specs.History.Machine.{Talk, start, noted, opened, was_sent, answer_now, is_online}
 use Rattle.fibs_session.specs.History.Numbering.{Quiet}
 use Rattle.fibs_session.specs.Calls.SessionValue.{SessionValue, IsNoToggle, At}
 use Rattle.fibs_session.specs.Calls.FieldSteps.{fresh, lost, with_board, still_waiting, confirmed_of, answer_of}
-use Rattle.fibs_session.proofs.History.Lists.{other_number, last_snoc, before_last, map_more, map_no_more}
-use Rattle.fibs_session.proofs.History.Lists.{snoc_not_empty}
-use Rattle.fibs_session.proofs.History.Past.{open_append, shown_more, sent_more, spent_first, spent_same, spent_other}
-use Rattle.fibs_session.proofs.History.Past.{spent_sent}
+use Rattle.fibs_session.proofs.History.Lists.{other_number, last_snoc, before_last, map_more, map_no_more, snoc_not_empty}
+use Rattle.fibs_session.proofs.History.Past.{open_append, shown_more, sent_more, spent_first, spent_same, spent_other, spent_sent}
 use Rattle.fibs_session.proofs.History.Texts.{NoToggles, no_texts, one_text, not_gone, decision_no_toggle}
-use Rattle.fibs_session.proofs.History.Words.{own, quiet_welcomed, quiet_informed, quiet_shown, quiet_sent}
-use Rattle.fibs_session.proofs.History.Words.{numbered_silent, numbered_own, numbered_opened, unconfirmed_quiet}
-use Rattle.fibs_session.proofs.History.Words.{unconfirmed_none, some_last, some_spent, none_last, quiet_ordered}
-use Rattle.fibs_session.proofs.History.Words.{quiet_withdrawn}
+use Rattle.fibs_session.proofs.History.Words.{own, quiet_welcomed, quiet_informed, quiet_shown, quiet_sent, numbered_silent, numbered_own, numbered_opened, unconfirmed_quiet, unconfirmed_none, some_last, some_spent, none_last, quiet_ordered, quiet_withdrawn}
 
 -- the empty history says nothing of any connection
 pub silent : (c : ℕ) → Quiet c []

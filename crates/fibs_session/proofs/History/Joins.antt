@@ -1,6 +1,5 @@
 -- Bytes may come in any pieces.
-use Rattle.std.proofs.Common.{◌≡◌, ℕ, Bool, true, false, not, List, [], ◌∷◌, ◌++◌, length, drop, if◌then◌else◌, nat_eq}
-use Rattle.std.proofs.Common.{flat_map, refl, sym, ◌∙◌, ap, append_assoc, append-nil}
+use Rattle.std.proofs.Common.{◌≡◌, ℕ, Bool, true, false, not, List, [], ◌∷◌, ◌++◌, length, drop, if◌then◌else◌, nat_eq, flat_map, refl, sym, ◌∙◌, ap, append_assoc, append-nil}
 use Rattle.std.proofs.Math.Seq.{drop-append_seam, drop-length}
 use Rattle.fibs_lines.specs.Lines.{ReadLine, lines_of}
 use Rattle.fibs_lines.specs.StreamLaws.{LinesOnlyGrow}
@@ -11,8 +10,7 @@ use Rattle.fibs_session.specs.History.Log.{Entry, Shown}
 use Rattle.fibs_session.specs.History.Words.{open_from, open_now, opened_by}
 use Rattle.fibs_session.specs.History.Orders.{is_due}
 use Rattle.fibs_session.specs.History.Hearing.{Heard, shows_board, line_reading}
-use Rattle.fibs_session.specs.History.Machine.{Talk, Outcome, InputValue, run, step, stays, is_online, reads}
-use Rattle.fibs_session.specs.History.Machine.{hears, hears_all, heard_by, then_also, with_bytes, gained}
+use Rattle.fibs_session.specs.History.Machine.{Talk, Outcome, InputValue, run, step, stays, is_online, reads, hears, hears_all, heard_by, then_also, with_bytes, gained}
 use Rattle.fibs_session.specs.History.MachineLaws.{PiecesJoin, EmptyPieceIsNothing, LinesOpenNoConnection}
 use Rattle.fibs_session.proofs.History.Past.{open_append}
 

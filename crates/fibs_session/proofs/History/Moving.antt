@@ -1,11 +1,9 @@
 -- Whether a connection has moved on from the last decision sent there, as a test, and what more entries change in it.
-use Rattle.std.proofs.Common.{◌≡◌, ℕ, Bool, true, false, not, ◌&&◌, List, [], ◌∷◌, ◌++◌, Some, if◌then◌else◌, nat_eq}
-use Rattle.std.proofs.Common.{refl, sym, ◌∙◌, ap, inl, inr, ◌⊎◌, true≢false}
+use Rattle.std.proofs.Common.{◌≡◌, ℕ, Bool, true, false, not, ◌&&◌, List, [], ◌∷◌, ◌++◌, Some, if◌then◌else◌, nat_eq, refl, sym, ◌∙◌, ap, inl, inr, ◌⊎◌, true≢false}
 use Rattle.fibs_fields.specs.Board.{BoardFields as Board}
 use Rattle.fibs_position.specs.DecisionValue.{DecisionValue as Decision}
 use Rattle.fibs_session.specs.History.Log.{Entry, Shown, Sent}
-use Rattle.fibs_session.specs.History.Words.{Ask, one_if, is_empty, last, each, shown_by, sent_by, shown, sent}
-use Rattle.fibs_session.specs.History.Words.{IsLikeness}
+use Rattle.fibs_session.specs.History.Words.{Ask, one_if, is_empty, last, each, shown_by, sent_by, shown, sent, IsLikeness}
 use Rattle.fibs_session.proofs.History.Lists.{snoc_not_empty, each_append, map_no_more}
 use Rattle.fibs_session.proofs.History.Past.{pick, shown_more, sent_more}
 

@@ -1,6 +1,5 @@
 -- What a piece makes a client hand out and note is taken from what is owed.
-use Rattle.std.proofs.Common.{◌≡◌, ◌≤◌, ◌+◌, ℕ, Bool, true, false, List, [], ◌∷◌, ◌++◌, length, None, if◌then◌else◌}
-use Rattle.std.proofs.Common.{nat_eq, refl, sym, ◌∙◌, ap, arith, append-nil, ◌*◌, suc, true≢false}
+use Rattle.std.proofs.Common.{◌≡◌, ◌≤◌, ◌+◌, ℕ, Bool, true, false, List, [], ◌∷◌, ◌++◌, length, None, if◌then◌else◌, nat_eq, refl, sym, ◌∙◌, ap, arith, append-nil, ◌*◌, suc, true≢false}
 use Rattle.std.proofs.lemmas.List.{length-append}
 use Rattle.std.proofs.lemmas.List.Concat.{flat_map-append}
 use Rattle.fibs_lines.specs.Lines.{ReadLine}
@@ -14,16 +13,12 @@ use Rattle.fibs_position.specs.DirectionOf.{direction_of}
 use Rattle.fibs_position.specs.declared.direction.Direction.{Direction}
 use Rattle.fibs_commands.specs.FirstCommands.{style_text, autoboard_text, moreboards_text, board_text}
 use Rattle.fibs_commands.specs.Commands.{command_of}
-use Rattle.fibs_session.specs.History.Hearing.{Heard, heard, flags_of, initial_commands, line_reading, nothing_heard}
-use Rattle.fibs_session.specs.History.Hearing.{shows_board}
+use Rattle.fibs_session.specs.History.Hearing.{Heard, heard, flags_of, initial_commands, line_reading, nothing_heard, shows_board}
 use Rattle.fibs_session.specs.History.Log.{Entry, Welcomed, Informed, Shown, Sent}
-use Rattle.fibs_session.specs.History.Machine.{Talk, stays, hears, hears_all, heard_by, is_online, with_bytes, gained}
-use Rattle.fibs_session.specs.History.Machine.{on_wire, wire_of, ordered_now}
-use Rattle.fibs_session.specs.History.Owing.{owed_on, owed, PiecesTakeFromWhatIsOwed, entries_owed}
-use Rattle.fibs_session.specs.History.Owing.{PiecesTakeFromTheEntriesOwed}
+use Rattle.fibs_session.specs.History.Machine.{Talk, stays, hears, hears_all, heard_by, is_online, with_bytes, gained, on_wire, wire_of, ordered_now}
+use Rattle.fibs_session.specs.History.Owing.{owed_on, owed, PiecesTakeFromWhatIsOwed, entries_owed, PiecesTakeFromTheEntriesOwed}
 use Rattle.fibs_session.specs.History.Orders.{is_due}
-use Rattle.fibs_session.specs.History.Words.{is_empty, open_now, welcomed, informed, welcomed_by, informed_by, last}
-use Rattle.fibs_session.specs.History.Words.{is_ordered, orders, is_given, orders_by}
+use Rattle.fibs_session.specs.History.Words.{is_empty, open_now, welcomed, informed, welcomed_by, informed_by, last, is_ordered, orders, is_given, orders_by}
 use Rattle.fibs_session.proofs.History.Joins.{hears_open}
 use Rattle.fibs_session.proofs.History.Lists.{map_more, map_no_more, snoc_not_empty}
 use Rattle.fibs_session.proofs.History.Words.{own}

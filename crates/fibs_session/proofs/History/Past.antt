@@ -1,14 +1,10 @@
 -- What one more entry changes in what a history says.
-use Rattle.std.proofs.Common.{◌≡◌, ℕ, Bool, true, false, not, ◌&&◌, List, [], ◌∷◌, ◌++◌, Some, if◌then◌else◌, nat_eq}
-use Rattle.std.proofs.Common.{refl, sym, ◌∙◌, ap, true≢false}
+use Rattle.std.proofs.Common.{◌≡◌, ℕ, Bool, true, false, not, ◌&&◌, List, [], ◌∷◌, ◌++◌, Some, if◌then◌else◌, nat_eq, refl, sym, ◌∙◌, ap, true≢false}
 use Rattle.fibs_fields.specs.Board.{BoardFields as Board}
 use Rattle.fibs_position.specs.DecisionValue.{DecisionValue as Decision}
-use Rattle.fibs_session.specs.History.Log.{Entry}
-use Rattle.fibs_session.specs.History.Log.{Opened, Shown, Sent, Lost}
-use Rattle.fibs_session.specs.History.Words.{one_if, is_empty, last, each, open_from, shown_by, sent_by, shown, sent}
-use Rattle.fibs_session.specs.History.Words.{is_spent, IsLikeness}
-use Rattle.fibs_session.proofs.History.Lists.{same_number, one_of_true, snoc_not_empty, each_append, each_last}
-use Rattle.fibs_session.proofs.History.Lists.{map_more, map_no_more}
+use Rattle.fibs_session.specs.History.Log.{Entry, Opened, Shown, Sent, Lost}
+use Rattle.fibs_session.specs.History.Words.{one_if, is_empty, last, each, open_from, shown_by, sent_by, shown, sent, is_spent, IsLikeness}
+use Rattle.fibs_session.proofs.History.Lists.{same_number, one_of_true, snoc_not_empty, each_append, each_last, map_more, map_no_more}
 
 -- of two histories in a row the second begins with the connection that the first leaves open
 pub open_append : (o : ℕ) (xs ys : List Entry) → open_from o (xs ++ ys) ≡ open_from (open_from o xs) ys

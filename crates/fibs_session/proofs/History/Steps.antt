@@ -1,6 +1,5 @@
 -- What each call does to the fields is what the machine does.
-use Rattle.std.proofs.Common.{◌≡◌, ◌<◌, ℕ, Bool, true, false, not, ◌&&◌, List, [], ◌∷◌, ◌++◌, Option, Some, None}
-use Rattle.std.proofs.Common.{is_some, if◌then◌else◌, nat_eq, refl, sym, ◌∙◌, ap, subst, append-nil, arith, is_none}
+use Rattle.std.proofs.Common.{◌≡◌, ◌<◌, ℕ, Bool, true, false, not, ◌&&◌, List, [], ◌∷◌, ◌++◌, Option, Some, None, is_some, if◌then◌else◌, nat_eq, refl, sym, ◌∙◌, ap, subst, append-nil, arith, is_none}
 use Rattle.std.specs.Prelude.{pos}
 use Rattle.std.specs.Ordering.{int_eq}
 use Rattle.fibs_fields.specs.Board.{BoardFields as Board, field_of}
@@ -12,34 +11,23 @@ use Rattle.fibs_commands.specs.Commands.{command_of}
 use Rattle.fibs_position.specs.GoodBoard.{good}
 use Rattle.fibs_position.specs.GamePart.{same_game}
 use Rattle.fibs_position.specs.Phases.{phase_of}
-use Rattle.fibs_commands.specs.PlainCommands.{PlainValue, automove_off, greedy_off, board_again, who, say, tell, shout}
-use Rattle.fibs_commands.specs.PlainCommands.{whisper, kibitz, leave_message, invite, invite_to, join, join_with}
-use Rattle.fibs_commands.specs.PlainCommands.{toggle_ready, bye, plain_of}
+use Rattle.fibs_commands.specs.PlainCommands.{PlainValue, automove_off, greedy_off, board_again, who, say, tell, shout, whisper, kibitz, leave_message, invite, invite_to, join, join_with, toggle_ready, bye, plain_of}
 use Rattle.fibs_commands.specs.FirstCommands.{style_text}
 use Rattle.fibs_session.specs.declared.histories.refusal.Refusal.{Refusal}
 use Rattle.fibs_session.specs.declared.histories.refusal.Refusal.TheVariants.{Offline, AlreadyOrdered, NotOrdered}
 use Rattle.fibs_session.specs.History.Log.{Entry, Shown, Ordered, Withdrawn}
-use Rattle.fibs_session.specs.History.Words.{is_empty, last, open_now, shown, welcomed, informed, IsLikeness, answer}
-use Rattle.fibs_session.specs.History.Words.{is_ordered, orders_by, is_given}
+use Rattle.fibs_session.specs.History.Words.{is_empty, last, open_now, shown, welcomed, informed, IsLikeness, answer, is_ordered, orders_by, is_given}
 use Rattle.fibs_session.specs.History.Hearing.{Heard, heard, flags_of, initial_commands, shows_board}
 use Rattle.fibs_session.specs.declared.histories.refusal.PlainRefusal.{PlainRefusal}
 use Rattle.fibs_session.specs.History.Allows.{allows}
-use Rattle.fibs_session.specs.History.Machine.{Talk, noted, answer_now, clicks, clicks_by, decides_on, flag_is_on}
-use Rattle.fibs_session.specs.History.Machine.{is_online, heard_by, may_send, plain_refusal, plains, sends_plain}
-use Rattle.fibs_session.specs.History.Machine.{ordered_now, order_refusal, withdraw_refusal, notes_if, orders_on}
-use Rattle.fibs_session.specs.History.Machine.{withdraws}
+use Rattle.fibs_session.specs.History.Machine.{Talk, noted, answer_now, clicks, clicks_by, decides_on, flag_is_on, is_online, heard_by, may_send, plain_refusal, plains, sends_plain, ordered_now, order_refusal, withdraw_refusal, notes_if, orders_on, withdraws}
 use Rattle.fibs_session.specs.History.Orders.{is_due, is_to_roll}
 use Rattle.fibs_session.specs.Calls.SessionValue.{SessionValue, At}
-use Rattle.fibs_session.specs.Calls.FieldSteps.{HeardFields, heard_fields, may_send_of, plain_refusal_of, with_plain}
-use Rattle.fibs_session.specs.Calls.FieldSteps.{with_board, confirmed_of, answer_of, with_ask, due_of, board_shown}
-use Rattle.fibs_session.specs.Calls.FieldSteps.{order_refusal_of, withdraw_refusal_of, with_order}
+use Rattle.fibs_session.specs.Calls.FieldSteps.{HeardFields, heard_fields, may_send_of, plain_refusal_of, with_plain, with_board, confirmed_of, answer_of, with_ask, due_of, board_shown, order_refusal_of, withdraw_refusal_of, with_order}
 use Rattle.fibs_session.proofs.History.Lists.{other_number, map_no_more}
-use Rattle.fibs_session.proofs.History.Texts.{NoToggles, no_texts, if_texts, not_gone, gone_now, style_texts}
-use Rattle.fibs_session.proofs.History.Texts.{initial_texts}
+use Rattle.fibs_session.proofs.History.Texts.{NoToggles, no_texts, if_texts, not_gone, gone_now, style_texts, initial_texts}
 use Rattle.fibs_session.proofs.History.Words.{yes, some_last}
-use Rattle.fibs_session.proofs.History.Fields.{online_law, at_silent, at_quiet, unheard_law, at_refused, answer_law}
-use Rattle.fibs_session.proofs.History.Fields.{at_welcomed, at_informed, at_shown, confirmed_law, at_order, gives_order}
-use Rattle.fibs_session.proofs.History.Fields.{withdraws_order, at_sent, at_rolled, silent, not_not}
+use Rattle.fibs_session.proofs.History.Fields.{online_law, at_silent, at_quiet, unheard_law, at_refused, answer_law, at_welcomed, at_informed, at_shown, confirmed_law, at_order, gives_order, withdraws_order, at_sent, at_rolled, silent, not_not}
 
 -- a choice by a test is the opposite choice by the opposite test
 flipped : {X : Type 0} (a b : Bool) (x y : X) → a ≡ not b → (if a then x else y) ≡ (if b then y else x)

@@ -1,19 +1,14 @@
 -- What more entries change in the words of a history.
-use Rattle.std.proofs.Common.{◌≡◌, ◌<◌, ◌≤◌, ℕ, zero, suc, Bool, true, false, not, ◌||◌, List, [], ◌∷◌, ◌++◌, length}
-use Rattle.std.proofs.Common.{Option, Some, None, is_some, if◌then◌else◌, nat_eq, flat_map, refl, sym, ◌∙◌, ap, subst}
-use Rattle.std.proofs.Common.{arith, true≢false}
+use Rattle.std.proofs.Common.{◌≡◌, ◌<◌, ◌≤◌, ℕ, zero, suc, Bool, true, false, not, ◌||◌, List, [], ◌∷◌, ◌++◌, length, Option, Some, None, is_some, if◌then◌else◌, nat_eq, flat_map, refl, sym, ◌∙◌, ap, subst, arith, true≢false}
 use Rattle.fibs_fields.specs.Board.{BoardFields as Board}
 use Rattle.fibs_position.specs.DecisionValue.{DecisionValue as Decision}
 use Rattle.fibs_position.specs.GamePart.{same_game}
 use Rattle.fibs_session.specs.declared.histories.refusal.Refusal.{Refusal}
 use Rattle.fibs_session.specs.declared.histories.refusal.Refusal.TheVariants.{Offline, NotReady, ServerPlays}
 use Rattle.fibs_session.specs.History.Log.{Entry, Flags, Opened, Welcomed, Informed, Shown, Sent, Ordered, Withdrawn}
-use Rattle.fibs_session.specs.History.Words.{one_if, is_empty, last, open_now, opened_by, connections, shown, sent}
-use Rattle.fibs_session.specs.History.Words.{welcomed, informed, welcomed_by, informed_by, shown_by, sent_by, orders_by}
-use Rattle.fibs_session.specs.History.Words.{is_spent, unconfirmed, answer, if_board, plays_itself}
+use Rattle.fibs_session.specs.History.Words.{one_if, is_empty, last, open_now, opened_by, connections, shown, sent, welcomed, informed, welcomed_by, informed_by, shown_by, sent_by, orders_by, is_spent, unconfirmed, answer, if_board, plays_itself}
 use Rattle.fibs_session.specs.History.Numbering.{Quiet, Numbered}
-use Rattle.fibs_session.proofs.History.Lists.{other_number, one_of_true, one_of_false, same_number, map_more}
-use Rattle.fibs_session.proofs.History.Lists.{map_no_more}
+use Rattle.fibs_session.proofs.History.Lists.{other_number, one_of_true, one_of_false, same_number, map_more, map_no_more}
 use Rattle.fibs_session.proofs.History.Past.{open_append, spent_quiet, spent_none, spent_has_sent}
 
 -- what is noted of one connection gives nothing for another

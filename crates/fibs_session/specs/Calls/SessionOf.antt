@@ -1,9 +1,7 @@
 -- Sessions and their answers as values.
 use Rattle.std.specs.Prelude.{ℕ, Bool, List, [], ◌∷◌, map, Option, None, Some, Result, Ok, Err, option_map}
-use Rattle.fibs_lines.specs.Lines.{ReadLine}
-use Rattle.fibs_lines.specs.Lines.{value_of}
-use Rattle.fibs_messages.specs.Line.{ReadingValue}
-use Rattle.fibs_messages.specs.Line.{reading_of}
+use Rattle.fibs_lines.specs.Lines.{ReadLine, value_of}
+use Rattle.fibs_messages.specs.Line.{ReadingValue, reading_of}
 use Rattle.fibs_fields.specs.StoredBoard.{fields_of}
 use Rattle.fibs_position.specs.DecisionValue.{decision_of}
 use Rattle.fibs_position.specs.GameOf.{game_of}

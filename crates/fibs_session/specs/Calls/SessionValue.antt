@@ -5,8 +5,7 @@ use Rattle.fibs_fields.specs.Board.{BoardFields}
 use Rattle.fibs_position.specs.GamePart.{same_game}
 use Rattle.fibs_commands.specs.PlainCommands.{automove_off, greedy_off, plain_of}
 use Rattle.fibs_session.specs.History.Log.{Flags}
-use Rattle.fibs_session.specs.History.Words.{Ask, is_empty, last, open_now, shown, welcomed}
-use Rattle.fibs_session.specs.History.Words.{informed, is_ordered, unconfirmed}
+use Rattle.fibs_session.specs.History.Words.{Ask, is_empty, last, open_now, shown, welcomed, informed, is_ordered, unconfirmed}
 use Rattle.fibs_session.specs.History.Machine.{Talk, was_sent}
 use Rattle.fibs_session.specs.History.Numbering.{Numbered}
 

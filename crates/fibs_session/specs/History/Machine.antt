@@ -1,7 +1,6 @@
 -- The client as a machine over its inputs (the project's own): its history, the bytes of the open connection, and the
 -- commands handed out on it.
-use Rattle.std.specs.Prelude.{ℕ, suc, Bool, true, false, not, ◌&&◌, ◌||◌, List, [], ◌∷◌, ◌++◌, length, drop, Option}
-use Rattle.std.specs.Prelude.{Some, None, option_map, if◌then◌else◌, nat_eq, flat_map}
+use Rattle.std.specs.Prelude.{ℕ, suc, Bool, true, false, not, ◌&&◌, ◌||◌, List, [], ◌∷◌, ◌++◌, length, drop, Option, Some, None, option_map, if◌then◌else◌, nat_eq, flat_map}
 use Rattle.std.specs.Str.{bytes_eq}
 use Rattle.fibs_lines.specs.Lines.{ReadLine, lines_of}
 use Rattle.fibs_fields.specs.Board.{BoardFields}
@@ -17,8 +16,7 @@ use Rattle.fibs_session.specs.declared.histories.refusal.PlainRefusal.{PlainRefu
 use Rattle.fibs_session.specs.declared.histories.refusal.PlainRefusal.TheVariants as P
 use Rattle.fibs_session.specs.History.Log.{Entry, Flags, Opened, Clicked, Sent, Lost, Ordered, Withdrawn}
 use Rattle.fibs_session.specs.History.Allows.{allows}
-use Rattle.fibs_session.specs.History.Words.{Ask, last, open_now, connections, shown, informed, unconfirmed, answer}
-use Rattle.fibs_session.specs.History.Words.{is_ordered}
+use Rattle.fibs_session.specs.History.Words.{Ask, last, open_now, connections, shown, informed, unconfirmed, answer, is_ordered}
 use Rattle.fibs_session.specs.History.Hearing.{Heard, heard, nothing_heard, line_reading}
 
 pub record Talk : Type 0 where

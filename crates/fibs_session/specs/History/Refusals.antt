@@ -4,11 +4,7 @@ use Rattle.fibs_commands.specs.PlainFaults.{plain_fault_number, plain_fault_name
 use Rattle.fibs_session.specs.declared.histories.refusal.PlainRefusal.{PlainRefusal}
 use Rattle.fibs_session.specs.declared.histories.refusal.PlainRefusal.TheVariants as P
 use Rattle.fibs_session.specs.declared.histories.refusal.Refusal.{Refusal}
-use Rattle.fibs_session.specs.declared.histories.refusal.Refusal.TheVariants.{AlreadyOpen, Offline, NotReady}
-use Rattle.fibs_session.specs.declared.histories.refusal.Refusal.TheVariants.{ServerPlays}
-use Rattle.fibs_session.specs.declared.histories.refusal.Refusal.TheVariants.{NoBoard, Waiting, NotYours, WrongKind}
-use Rattle.fibs_session.specs.declared.histories.refusal.Refusal.TheVariants.{IllegalPlay}
-use Rattle.fibs_session.specs.declared.histories.refusal.Refusal.TheVariants.{NotOn, AlreadyOrdered, NotOrdered}
+use Rattle.fibs_session.specs.declared.histories.refusal.Refusal.TheVariants.{AlreadyOpen, Offline, NotReady, ServerPlays, NoBoard, Waiting, NotYours, WrongKind, IllegalPlay, NotOn, AlreadyOrdered, NotOrdered}
 
 abbrev pub refusal_number : Refusal → ℕ
 refusal_number AlreadyOpen = 1

@@ -1,14 +1,11 @@
 -- What a history of entries, the oldest first, says of a connection (the project's own). Each word is of the whole
 -- list.
-use Rattle.std.specs.Prelude.{◌≡◌, ℕ, Bool, true, false, not, ◌&&◌, ◌||◌, List, [], ◌∷◌, length, Option, Some, None}
-use Rattle.std.specs.Prelude.{if◌then◌else◌, nat_eq, flat_map}
+use Rattle.std.specs.Prelude.{◌≡◌, ℕ, Bool, true, false, not, ◌&&◌, ◌||◌, List, [], ◌∷◌, length, Option, Some, None, if◌then◌else◌, nat_eq, flat_map}
 use Rattle.fibs_fields.specs.Board.{BoardFields as Board}
 use Rattle.fibs_position.specs.DecisionValue.{DecisionValue as Decision}
 use Rattle.fibs_session.specs.declared.histories.refusal.Refusal.{Refusal}
-use Rattle.fibs_session.specs.declared.histories.refusal.Refusal.TheVariants.{Offline, NotReady, ServerPlays, NoBoard}
-use Rattle.fibs_session.specs.declared.histories.refusal.Refusal.TheVariants.{Waiting}
-use Rattle.fibs_session.specs.History.Log.{Entry, Flags}
-use Rattle.fibs_session.specs.History.Log.{Opened, Welcomed, Informed, Shown, Sent, Took, Lost, Ordered, Withdrawn}
+use Rattle.fibs_session.specs.declared.histories.refusal.Refusal.TheVariants.{Offline, NotReady, ServerPlays, NoBoard, Waiting}
+use Rattle.fibs_session.specs.History.Log.{Entry, Flags, Opened, Welcomed, Informed, Shown, Sent, Took, Lost, Ordered, Withdrawn}
 
 -- a decision with the board that it is about
 abbrev pub Ask : Type 0

@@ -1,8 +1,7 @@
 //! A reading while its line is not lent.
 
 ghost use Rattle.std.specs.Prelude.{◌≡◌};
-ghost use Rattle.fibs_lines.specs.Lines.{value_of};
-ghost use Rattle.fibs_lines.specs.Lines.{ReadLine};
+ghost use Rattle.fibs_lines.specs.Lines.{value_of, ReadLine};
 ghost use Rattle.fibs_messages.specs.Line.{reading_of};
 ghost use Rattle.fibs_session.specs.History.Hearing.{line_reading};
 

@@ -1,8 +1,7 @@
 //! Why a client refuses.
 
 ghost use Rattle.std.specs.Prelude.{◌≡◌, Some};
-ghost use Rattle.fibs_session.specs.History.Refusals.{refusal_number, refusal_name, plain_refusal_number};
-ghost use Rattle.fibs_session.specs.History.Refusals.{plain_refusal_name};
+ghost use Rattle.fibs_session.specs.History.Refusals.{refusal_number, refusal_name, plain_refusal_number, plain_refusal_name};
 
 use fibs_commands::PlainFault;
 use std::fmt;

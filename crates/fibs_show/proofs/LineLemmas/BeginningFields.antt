@@ -1,8 +1,5 @@
 -- A front of a text that has the form of a field is what is printed of its value.
-use Rattle.std.proofs.Common.{◌≡◌, ◌≢◌, ◌∙◌, ℕ, suc, ◌+◌, ◌-◌, ◌*◌, ◌/◌, ◌%◌, ◌^◌, ◌<◌, ◌≤◌, ◌==◌, true, false}
-use Rattle.std.proofs.Common.{not}
-use Rattle.std.proofs.Common.{List, [], ◌∷◌, ◌++◌, decimal, length, get_or, take, drop, refl, sym, ap, arith}
-use Rattle.std.proofs.Common.{add-one, inl, inr, nat_lt, length-append, rules}
+use Rattle.std.proofs.Common.{◌≡◌, ◌≢◌, ◌∙◌, ℕ, suc, ◌+◌, ◌-◌, ◌*◌, ◌/◌, ◌%◌, ◌^◌, ◌<◌, ◌≤◌, ◌==◌, true, false, not, List, [], ◌∷◌, ◌++◌, decimal, length, get_or, take, drop, refl, sym, ap, arith, add-one, inl, inr, nat_lt, length-append, rules}
 use Rattle.std.specs.Prelude.{◌||◌}
 use Rattle.std.specs.Char.{is_ascii_digit}
 use Rattle.std.specs.List.{list_all, prefix_len}
@@ -13,8 +10,7 @@ use Rattle.std.proofs.lemmas.List.{take_all, get_or-take, length-take-le}
 use Rattle.std.proofs.lemmas.List.Sums.{prefix_len-le-length}
 use Rattle.std.proofs.lemmas.Str.Parse.{numerals_by_value, digits_value_short}
 use Rattle.fibs_fields.specs.Decimal.{is_positive, is_zero}
-use Rattle.fibs_fields.specs.Field.{a_name, a_word, a_tail, a_flag, a_number, a_rating, a_text}
-use Rattle.fibs_fields.specs.Field.{NameField, WordField, TailField, FlagField, NumberField, RatingField, TextField}
+use Rattle.fibs_fields.specs.Field.{a_name, a_word, a_tail, a_flag, a_number, a_rating, a_text, NameField, WordField, TailField, FlagField, NumberField, RatingField, TextField}
 use Rattle.fibs_fields.specs.Name.{is_name_byte}
 use Rattle.fibs_fields.specs.Rating.{printed_rating}
 use Rattle.fibs_fields.specs.Split.{before, after}

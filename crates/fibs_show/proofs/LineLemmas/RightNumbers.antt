@@ -1,8 +1,5 @@
 -- Numbers of a board's line that are right, one after another.
-use Rattle.std.proofs.Common.{◌≡◌, ◌∙◌, ◌==◌, ◌++◌, ◌+◌, ◌-◌, ◌<◌, ◌≤◌, ◌^◌, ℕ, Bool, true, false, not, List, []}
-use Rattle.std.proofs.Common.{◌∷◌, Option, Some, None, Result, Ok, arith, refl, sym}
-use Rattle.std.proofs.Common.{ap, subst, append_assoc, drop, get_or, length}
-use Rattle.std.proofs.Common.{map, replicate, ⊎_elim, lit<}
+use Rattle.std.proofs.Common.{◌≡◌, ◌∙◌, ◌==◌, ◌++◌, ◌+◌, ◌-◌, ◌<◌, ◌≤◌, ◌^◌, ℕ, Bool, true, false, not, List, [], ◌∷◌, Option, Some, None, Result, Ok, arith, refl, sym, ap, subst, append_assoc, drop, get_or, length, map, replicate, ⊎_elim, lit<}
 use Rattle.std.specs.Fmt.{decimal}
 use Rattle.std.specs.Prelude.{is_none, pos}
 use Rattle.std.specs.Str.Parse.{digits_value}
@@ -20,8 +17,7 @@ use Rattle.std.proofs.lemmas.List.Sums.{AllPass-from_list_all}
 use Rattle.std.proofs.lemmas.Str.Parse.{digits_value_short}
 use Rattle.fibs_fields.specs.Board.{checkers, count, edge, field_values, flag, kinds, pieces, place, side}
 use Rattle.fibs_fields.specs.BoardReading.{first_fault, fault_or, pieces_of, pieces_left}
-use Rattle.fibs_show.specs.RightNumbers.{AreRight, DigitAt, NoFault, are_right}
-use Rattle.fibs_show.specs.RightNumbers.{cube, die, is_right, score, turn}
+use Rattle.fibs_show.specs.RightNumbers.{AreRight, DigitAt, NoFault, are_right, cube, die, is_right, score, turn}
 use Rattle.fibs_fields.specs.Decimal.{allows, is_positive, number_in}
 use Rattle.fibs_fields.specs.Field.{Kind, FieldValue, NameField, TextField, a_name, a_number_of, a_text}
 use Rattle.fibs_fields.specs.FieldReading.{Left, left, field_at, text_at, value_in}

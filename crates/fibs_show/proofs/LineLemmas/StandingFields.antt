@@ -1,14 +1,11 @@
 -- If each field of a line is as it is printed, the line is the canonical line of its message.
-use Rattle.std.proofs.Common.{◌≡◌, ◌∙◌, ℕ, ◌+◌, List, [], ◌∷◌, ◌++◌, decimal, length, take}
-use Rattle.std.proofs.Common.{replicate, Option, Some, None, refl, sym, ap, ap₂, arith}
-use Rattle.std.proofs.Common.{append_assoc}
+use Rattle.std.proofs.Common.{◌≡◌, ◌∙◌, ℕ, ◌+◌, List, [], ◌∷◌, ◌++◌, decimal, length, take, replicate, Option, Some, None, refl, sym, ap, ap₂, arith, append_assoc}
 use Rattle.std.specs.List.{flat_map, AllByRecursion}
 use Rattle.std.proofs.lemmas.List.{append-nil, map-append, take_all}
 use Rattle.fibs_fields.specs.Field.{Kind, FieldValue, kind_of, IsValue}
 use Rattle.fibs_fields.specs.Split.{before, after}
 use Rattle.fibs_fields.proofs.FieldLemmas.Splits.{behind, before-behind}
-use Rattle.fibs_messages.specs.Message.{MessageText, MessageValue, canonical, canonical_field, kinds_of, kept}
-use Rattle.fibs_messages.specs.Message.{number_word}
+use Rattle.fibs_messages.specs.Message.{MessageText, MessageValue, canonical, canonical_field, kinds_of, kept, number_word}
 use Rattle.fibs_show.specs.Standing.{after_space, AllStand, Begins, Stands}
 use Rattle.fibs_messages.proofs.MessageLemmas.CanonicalLines.{fields_text}
 use Rattle.fibs_messages.proofs.MessageLemmas.MessageLines.{before-append, spaces_head, kept_part}

@@ -4,8 +4,7 @@ ghost use Rattle.std.specs.Prelude.{◌≡◌, ◌≤◌, [], ◌∷◌, ◌++�
 ghost use Rattle.fibs_fields.specs.Field.{a_flag, a_name, a_number, a_rating, a_tail, a_text, a_word};
 ghost use Rattle.fibs_fields.specs.Split.{before, seen};
 ghost use Rattle.fibs_messages.specs.Message.{IsNumber, MessageText, MessageValue, canonical, kinds_of, number_word};
-ghost use Rattle.fibs_show.specs.Standing.{AllStand, Begins, BeginsDecimal, Stands};
-ghost use Rattle.fibs_show.specs.Standing.{after_space, kind_seen, kinds_seen};
+ghost use Rattle.fibs_show.specs.Standing.{AllStand, Begins, BeginsDecimal, Stands, after_space, kind_seen, kinds_seen};
 
 use fibs_fields::decimal::digit_run;
 use fibs_fields::name::name_run;

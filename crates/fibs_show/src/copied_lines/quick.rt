@@ -6,8 +6,7 @@
 //! moves
 //! `at` behind the last colon. If they are not, where `at` is says nothing.
 
-ghost use Rattle.std.specs.Prelude.{◌≡◌, ◌<◌, ◌≤◌, ◌+◌, ◌-◌, ◌*◌, ◌^◌, [], ◌∷◌, ◌++◌, ℕ, true, None, pos, drop};
-ghost use Rattle.std.specs.Prelude.{length, map, replicate, slice_index, take};
+ghost use Rattle.std.specs.Prelude.{◌≡◌, ◌<◌, ◌≤◌, ◌+◌, ◌-◌, ◌*◌, ◌^◌, [], ◌∷◌, ◌++◌, ℕ, true, None, pos, drop, length, map, replicate, slice_index, take};
 ghost use Rattle.fibs_fields.specs.Board.{checkers, count, edge, field_values, flag, pieces, place, side};
 ghost use Rattle.fibs_fields.specs.BoardReading.{first_fault};
 ghost use Rattle.fibs_show.specs.RightNumbers.{AreRight, DigitAt, NoFault, are_right, cube, die, score, turn};

@@ -1,9 +1,7 @@
 use Rattle.std.proofs.Common.{◌++◌, ◌∷◌, []}
 use Rattle.std.proofs.KnownBytes.{Keeps-refl}
 use Rattle.fibs_cli.specs.Program.{Streams, streams, Played}
-use Rattle.fibs_cli.proofs.ProgramLemmas.{showed, listed, printed, ran_script, served_replay, served_show, served_plays}
-use Rattle.fibs_cli.proofs.ProgramLemmas.{served_loop, showed_objects, served_objects, listed_object, listed_word}
-use Rattle.fibs_cli.proofs.ProgramLemmas.{for_word, served_listed, ran_objects, served_ran}
+use Rattle.fibs_cli.proofs.ProgramLemmas.{showed, listed, printed, ran_script, served_replay, served_show, served_plays, served_loop, showed_objects, served_objects, listed_object, listed_word, for_word, served_listed, ran_objects, served_ran}
 use Rattle.fibs_cli.proofs.program.serve.Goals as goal
 
 pub returns-in-Show : goal.returns-in-Show

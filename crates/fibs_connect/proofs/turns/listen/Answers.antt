@@ -5,8 +5,7 @@ use Rattle.fibs_session.specs.History.Machine.{Piece, step}
 use Rattle.fibs_engine.specs.Writing.{Whole, Broken}
 use Rattle.fibs_connect.proofs.TurnLemmas.Wrote.{consumes_none}
 use Rattle.fibs_connect.proofs.TurnLemmas.Scripts.{did_joined}
-use Rattle.fibs_connect.proofs.TurnLemmas.Turns.{gone_nothing, gone_kept, gone_portion, broke_portion}
-use Rattle.fibs_connect.proofs.TurnLemmas.Turns.{talked_all, turned_whole}
+use Rattle.fibs_connect.proofs.TurnLemmas.Turns.{gone_nothing, gone_kept, gone_portion, broke_portion, talked_all, turned_whole}
 use Rattle.fibs_connect.proofs.TurnLemmas.Reads.{more_read, few_and_none, few_and_portion}
 use Rattle.fibs_connect.proofs.TurnLemmas.Stops.{listened_fault, listened_lost, stopped_whole, stopped_portion}
 use Rattle.fibs_connect.proofs.turns.listen.Goals as goal

@@ -8,8 +8,7 @@ use Rattle.std.proofs.lemmas.Result.{on_err_weaker}
 use Rattle.fibs_connect.proofs.TurnLemmas.Scripts.{silent_joins, hushed}
 use Rattle.fibs_connect.proofs.TurnLemmas.Typed.{typed_stays}
 use Rattle.fibs_connect.proofs.TurnLemmas.Turns.{turned_typed, turned_broken, turned_here, still_open, never}
-use Rattle.fibs_connect.proofs.TurnLemmas.Stops.{on_any_err, listened_ok, listened_err, lost_untold, stopped}
-use Rattle.fibs_connect.proofs.TurnLemmas.Stops.{stopped_typed}
+use Rattle.fibs_connect.proofs.TurnLemmas.Stops.{on_any_err, listened_ok, listened_err, lost_untold, stopped, stopped_typed}
 use Rattle.fibs_connect.proofs.turns.talk.Goals as goal
 
 pub returns-in-None-clause-turned : goal.returns-in-None-clause-turned

@@ -4,8 +4,7 @@ use Rattle.fibs_engine.specs.Streams.{WroteLinesOf}
 use Rattle.fibs_engine.specs.Writing.{GainedFront}
 use Rattle.fibs_engine.proofs.OkLemmas.{on_ok_weaker}
 use Rattle.fibs_engine.proofs.ReadLemmas.{kept_consumes}
-use Rattle.fibs_engine.proofs.StreamLemmas.{passed_more, passed_part, passed_front, passed_whole, passed_whole_front}
-use Rattle.fibs_engine.proofs.StreamLemmas.{passed_few, took_none, portion_part, portion_some}
+use Rattle.fibs_engine.proofs.StreamLemmas.{passed_more, passed_part, passed_front, passed_whole, passed_whole_front, passed_few, took_none, portion_part, portion_some}
 use Rattle.fibs_engine.proofs.line_printer.print_stream.Goals as goal
 
 pub returns-in-Ok-eq0-clause-whole : goal.returns-in-Ok-eq0-clause-whole

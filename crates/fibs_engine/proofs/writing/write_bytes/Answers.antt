@@ -2,8 +2,7 @@ use Rattle.std.proofs.Common.{◌++◌, [], take, refl, ◌∙◌, ap, sym, subs
 use Rattle.std.proofs.lemmas.List.{take_rest}
 use Rattle.std.specs.Io.KnownBytes.{Appends}
 use Rattle.std.proofs.KnownBytes.{Appends-nil, Appends-trans}
-use Rattle.fibs_engine.proofs.WriteLemmas.{front_more}
-use Rattle.fibs_engine.proofs.WriteLemmas.{took_nothing, failed_write}
+use Rattle.fibs_engine.proofs.WriteLemmas.{front_more, took_nothing, failed_write}
 use Rattle.fibs_engine.proofs.writing.write_bytes.Goals as goal
 
 pub loop-rest-init : goal.loop-rest-init

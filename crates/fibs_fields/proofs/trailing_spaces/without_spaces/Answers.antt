@@ -1,6 +1,5 @@
 use Rattle.std.proofs.Common.{◌≡◌, ◌==◌, ◌+◌, ◌-◌, sym, ap, ◌∙◌, arith, get_or, length}
-use Rattle.fibs_fields.proofs.FieldLemmas.Spaces.{without_spaces_at, spaces_at, space_from_not_in}
-use Rattle.fibs_fields.proofs.FieldLemmas.Spaces.{no_space_from_not_in}
+use Rattle.fibs_fields.proofs.FieldLemmas.Spaces.{without_spaces_at, spaces_at, space_from_not_in, no_space_from_not_in}
 use Rattle.fibs_fields.proofs.trailing_spaces.without_spaces.Goals as goal
 
 pub returns-in-Some-clause-value : goal.returns-in-Some-clause-value

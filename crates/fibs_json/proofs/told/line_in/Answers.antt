@@ -1,8 +1,7 @@
 use Rattle.std.proofs.Common.{◌∙◌, ap, not, sym}
 use Rattle.fibs_json.proofs.ToldLemmas.{line_found, line_missing, no_plain}
 use Rattle.fibs_json.proofs.told.line_in.Goals as goal
-use Rattle.fibs_json.proofs.told.line_in.Goals.{then-is_none-via-then-is_none}
-use Rattle.fibs_json.proofs.told.line_in.Goals.{then-is_none-via-else-is_none+then-any_escaped}
+use Rattle.fibs_json.proofs.told.line_in.Goals.{then-is_none-via-then-is_none, then-is_none-via-else-is_none+then-any_escaped}
 
 pub returns-then-is_none : goal.returns-then-is_none
 returns-then-is_none c =

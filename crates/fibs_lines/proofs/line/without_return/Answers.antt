@@ -1,8 +1,7 @@
 use Rattle.std.proofs.Common.{arith, sym, ◌∙◌}
 use Rattle.fibs_lines.proofs.ReturnLemmas.{strip-is, without_return_at, without_return_none}
 use Rattle.fibs_lines.proofs.line.without_return.Goals as goal
-use Rattle.fibs_lines.proofs.line.without_return.Goals.{else-len-gt0-via-then-len-gt0+else-bytes-len-eq13}
-use Rattle.fibs_lines.proofs.line.without_return.Goals.{else-len-gt0-via-else-len-gt0}
+use Rattle.fibs_lines.proofs.line.without_return.Goals.{else-len-gt0-via-then-len-gt0+else-bytes-len-eq13, else-len-gt0-via-else-len-gt0}
 
 pub returns-then-bytes-len-eq13 : goal.returns-then-bytes-len-eq13
 returns-then-bytes-len-eq13 c =

@@ -1,5 +1,4 @@
-use Rattle.std.proofs.Common.{◌≡◌, ◌≤◌, ◌-◌, ◌+◌, ◌++◌, ◌∙◌, refl, sym, ap, arith, length, length-append}
-use Rattle.std.proofs.Common.{length-drop, take, drop, append-nil}
+use Rattle.std.proofs.Common.{◌≡◌, ◌≤◌, ◌-◌, ◌+◌, ◌++◌, ◌∙◌, refl, sym, ap, arith, length, length-append, length-drop, take, drop, append-nil}
 use Rattle.std.proofs.lemmas.List.{length-take}
 use lib.Count.{count_trailing_zeros, trailing_le}
 use Rattle.fibs_lines.proofs.WindowLemmas.{window_more, window_part, window_run, window_stops}

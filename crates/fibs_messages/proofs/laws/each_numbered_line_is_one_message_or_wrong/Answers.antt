@@ -1,5 +1,4 @@
-use Rattle.fibs_messages.proofs.MessageLemmas.MessageReadings.{message_or_wrong, message_not_wrong, one_message}
-use Rattle.fibs_messages.proofs.MessageLemmas.MessageReadings.{one_wrong}
+use Rattle.fibs_messages.proofs.MessageLemmas.MessageReadings.{message_or_wrong, message_not_wrong, one_message, one_wrong}
 use Rattle.fibs_messages.proofs.laws.each_numbered_line_is_one_message_or_wrong.Goals as goal
 
 pub returns-clause-either : goal.returns-clause-either

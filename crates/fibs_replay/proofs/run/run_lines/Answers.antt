@@ -3,8 +3,7 @@ use Rattle.fibs_model.specs.Crossings.{crossings}
 use Rattle.fibs_model.specs.EventOf.{event_of}
 use Rattle.fibs_replay.specs.Output.{script_login}
 use Rattle.fibs_replay.proofs.ReplayLemmas.Carrying.{front_is, given_none, given_more, given_still}
-use Rattle.fibs_replay.proofs.ReplayLemmas.Runs.{run_begins, run_begins_none, run_more, run_more_one}
-use Rattle.fibs_replay.proofs.ReplayLemmas.Runs.{run_stops, run_ends, rest_readable}
+use Rattle.fibs_replay.proofs.ReplayLemmas.Runs.{run_begins, run_begins_none, run_more, run_more_one, run_stops, run_ends, rest_readable}
 use Rattle.fibs_replay.proofs.run.run_lines.Goals as goal
 
 pub loop-line-init : goal.loop-line-init

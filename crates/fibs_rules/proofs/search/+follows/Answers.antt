@@ -1,6 +1,5 @@
 use Rattle.std.proofs.Common.{rules, ◌≡◌, ◌-◌, get_or, ◌∙◌}
-use Rattle.fibs_rules.proofs.SearchLemmas.FollowSteps.{follows_none, follows_astray, follows_stuck, follows_on}
-use Rattle.fibs_rules.proofs.SearchLemmas.FollowSteps.{dice_rest}
+use Rattle.fibs_rules.proofs.SearchLemmas.FollowSteps.{follows_none, follows_astray, follows_stuck, follows_on, dice_rest}
 use Rattle.fibs_rules.proofs.search.+follows.Goals as goal
 
 pub returns-then-is_empty-2 : goal.returns-then-is_empty-2

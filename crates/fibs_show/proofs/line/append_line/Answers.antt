@@ -3,8 +3,7 @@ use Rattle.fibs_lines.specs.Lines.{value_of}
 use Rattle.fibs_engine.specs.Escape.{escaped}
 use Rattle.fibs_engine.specs.Readings.{reading_text}
 use Rattle.fibs_show.proofs.ShowLemmas.{cut_line, read_line, line_more}
-use Rattle.fibs_show.proofs.line.append_line.Goals.{then-line+in_ok-extend_from_slice+in_ok-append_escaped}
-use Rattle.fibs_show.proofs.line.append_line.Goals.{else-line+in_ok-append_reading}
+use Rattle.fibs_show.proofs.line.append_line.Goals.{then-line+in_ok-extend_from_slice+in_ok-append_escaped, else-line+in_ok-append_reading}
 use Rattle.fibs_show.proofs.line.append_line.Goals as goal
 
 pub returns : goal.returns

@@ -1,8 +1,7 @@
 use Rattle.std.proofs.Common.{◌≡◌, ◌++◌, ◌∷◌, [], subst, ◌∙◌}
 use Rattle.std.proofs.KnownBytes.{Keeps-refl}
 use Rattle.std.proofs.lemmas.Result.{IfOk-weaker}
-use Rattle.fibs_position.specs.PositionValue.{position_of}
-use Rattle.fibs_position.specs.PositionValue.{position_value}
+use Rattle.fibs_position.specs.PositionValue.{position_of, position_value}
 use Rattle.fibs_show.specs.Plays.{PositionText}
 use Rattle.fibs_show.proofs.PlaysLemmas.{device_alone}
 use Rattle.fibs_show.proofs.plays.plays.Goals as goal

@@ -1,7 +1,6 @@
 use Rattle.std.proofs.Common.{subst}
 use Rattle.fibs_cli.specs.Printing.{ObjectsFor}
-use Rattle.fibs_cli.proofs.ReplayLemmas.{unread_done, unread_failed, unread_in_part}
-use Rattle.fibs_cli.proofs.ReplayLemmas.{readable_done, readable_failed, readable_in_part}
+use Rattle.fibs_cli.proofs.ReplayLemmas.{unread_done, unread_failed, unread_in_part, readable_done, readable_failed, readable_in_part}
 use Rattle.fibs_cli.proofs.objects.replay.replay_json.Goals as goal
 
 pub returns-in-Unreadable-clause-done : goal.returns-in-Unreadable-clause-done

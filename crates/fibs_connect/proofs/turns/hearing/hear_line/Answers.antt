@@ -2,8 +2,7 @@ use Rattle.std.proofs.Common.{refl, subst, ◌∷◌, []}
 use Rattle.std.specs.Io.KnownBytes.{Appends}
 use Rattle.fibs_session.specs.History.Machine.{wire_of}
 use Rattle.fibs_session.specs.Calls.SessionOf.{texts_of, taken_of}
-use Rattle.fibs_engine.specs.Writing.{Wrote}
-use Rattle.fibs_engine.specs.Writing.{Whole, Broken}
+use Rattle.fibs_engine.specs.Writing.{Wrote, Whole, Broken}
 use Rattle.fibs_connect.specs.Turns.Lines.{taken_act}
 use Rattle.fibs_connect.specs.Turns.Script.{directory_told}
 use Rattle.fibs_connect.proofs.TurnLemmas.Scripts.{did_act, did_part, did_untold}

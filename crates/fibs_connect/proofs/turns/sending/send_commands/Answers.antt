@@ -1,5 +1,4 @@
-use Rattle.std.proofs.Common.{◌≡◌, ◌<◌, ◌+◌, ◌++◌, ℕ, List, ◌∷◌, length, get_or, drop, drop-cons, arith, suc, sym}
-use Rattle.std.proofs.Common.{ap, ◌∙◌, append_assoc}
+use Rattle.std.proofs.Common.{◌≡◌, ◌<◌, ◌+◌, ◌++◌, ℕ, List, ◌∷◌, length, get_or, drop, drop-cons, arith, suc, sym, ap, ◌∙◌, append_assoc}
 use Rattle.std.proofs.KnownBytes.{Appends-trans, Keeps-trans}
 use Rattle.fibs_commands.specs.TextOf.{text_of}
 use Rattle.arrayvec.specs.ArrayString.{ArrayString as CommandText}

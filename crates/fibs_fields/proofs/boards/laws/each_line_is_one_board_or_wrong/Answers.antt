@@ -1,5 +1,4 @@
-use Rattle.fibs_fields.proofs.BoardLemmas.EachLine.{board_or_wrong}
-use Rattle.fibs_fields.proofs.BoardLemmas.EachLine.{one_board, not_both}
+use Rattle.fibs_fields.proofs.BoardLemmas.EachLine.{board_or_wrong, one_board, not_both}
 use Rattle.fibs_fields.proofs.boards.laws.each_line_is_one_board_or_wrong.Goals as goal
 
 pub returns-clause-either : goal.returns-clause-either

@@ -1,6 +1,4 @@
-use Rattle.std.proofs.Common.{◌≡◌, ◌∷◌, ◌++◌, ◌+◌, ◌<◌, ◌≤◌, [], refl, sym, ap}
-use Rattle.std.proofs.Common.{◌∙◌, rules, arith, take, drop, length, map}
-use Rattle.std.proofs.Common.{length-set}
+use Rattle.std.proofs.Common.{◌≡◌, ◌∷◌, ◌++◌, ◌+◌, ◌<◌, ◌≤◌, [], refl, sym, ap, ◌∙◌, rules, arith, take, drop, length, map, length-set}
 use Rattle.std.specs.Prelude.{FitsSigned, slice_get}
 use Rattle.std.specs.Fmt.{signed_decimal}
 use Rattle.std.specs.Int.{w32, cast_signed, cast_unsigned}

@@ -2,8 +2,7 @@ use Rattle.std.proofs.Common.{◌≡◌, ◌<◌, ◌++◌, true, false, length,
 use Rattle.std.proofs.lemmas.List.{take_all}
 use Rattle.fibs_lines.specs.Progress.{kept, Advances, AdvancesToEnd}
 use Rattle.fibs_lines.specs.LinesValue.{StandsAfter, lines_value}
-use Rattle.fibs_lines.proofs.FeedLemmas.{kept_of, StandsAfter-from_kept, KeptAfter-from_stands, Feeds_whole, Feeds_line}
-use Rattle.fibs_lines.proofs.FeedLemmas.{KeptAfter_line, value_where_lent, value_where_not_lent}
+use Rattle.fibs_lines.proofs.FeedLemmas.{kept_of, StandsAfter-from_kept, KeptAfter-from_stands, Feeds_whole, Feeds_line, KeptAfter_line, value_where_lent, value_where_not_lent}
 use Rattle.fibs_lines.proofs.lines.Lines.feed.Goals as goal
 use Rattle.fibs_lines.proofs.lines.Lines.feed.Goals.{then-self, else-self}
 

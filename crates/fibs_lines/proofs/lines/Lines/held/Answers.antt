@@ -2,8 +2,7 @@ use Rattle.std.proofs.Common.{◌≡◌, true, false, min, sym, ap, subst, ◌�
 use Rattle.fibs_lines.specs.Lines.{kept_limit}
 use Rattle.fibs_lines.specs.Progress.{kept}
 use Rattle.fibs_lines.specs.LinesValue.{StandsAfter, lines_value}
-use Rattle.fibs_lines.proofs.FeedLemmas.{kept_of, KeptAfter-from_stands, value_where_lent, value_where_not_lent}
-use Rattle.fibs_lines.proofs.FeedLemmas.{held_of_head}
+use Rattle.fibs_lines.proofs.FeedLemmas.{kept_of, KeptAfter-from_stands, value_where_lent, value_where_not_lent, held_of_head}
 use Rattle.fibs_lines.proofs.lines.Lines.held.Goals as goal
 
 pub returns-clause-value : goal.returns-clause-value

@@ -2,8 +2,7 @@ use Rattle.std.proofs.Common.{◌≡◌, take, true, false, sym, ap, subst, ◌�
 use Rattle.fibs_lines.specs.Lines.{kept_limit}
 use Rattle.fibs_lines.specs.Progress.{kept}
 use Rattle.fibs_lines.specs.LinesValue.{StandsAfter, lines_value}
-use Rattle.fibs_lines.proofs.FeedLemmas.{kept_of, KeptAfter-from_stands, value_where_lent, value_where_not_lent}
-use Rattle.fibs_lines.proofs.FeedLemmas.{bytes_of_head}
+use Rattle.fibs_lines.proofs.FeedLemmas.{kept_of, KeptAfter-from_stands, value_where_lent, value_where_not_lent, bytes_of_head}
 use Rattle.fibs_lines.proofs.ReturnLemmas.{take_at_limit}
 use Rattle.fibs_lines.proofs.lines.Lines.unfinished.Goals as goal
 

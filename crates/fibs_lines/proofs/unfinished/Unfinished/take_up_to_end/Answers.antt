@@ -1,11 +1,9 @@
-use Rattle.std.proofs.Common.{◌≡◌, ◌+◌, ◌-◌, ◌<◌, length, take, drop, get_or, true, refl, ap, subst, ◌∙◌, arith}
-use Rattle.std.proofs.Common.{length-drop}
+use Rattle.std.proofs.Common.{◌≡◌, ◌+◌, ◌-◌, ◌<◌, length, take, drop, get_or, true, refl, ap, subst, ◌∙◌, arith, length-drop}
 use Rattle.std.proofs.lemmas.List.{take_rest, get_or-drop}
 use Rattle.fibs_lines.specs.Progress.{kept, Advances, ends_run}
 use Rattle.fibs_lines.proofs.Advancing.{Advances-taken, Advances-next, Advances-opened}
 use Rattle.fibs_lines.proofs.unfinished.Unfinished.take_up_to_end.Goals as goal
-use Rattle.fibs_lines.proofs.unfinished.Unfinished.take_up_to_end.Goals.{then-eq+else-at-piece+else-piece-at-eq10}
-use Rattle.fibs_lines.proofs.unfinished.Unfinished.take_up_to_end.Goals.{else-eq}
+use Rattle.fibs_lines.proofs.unfinished.Unfinished.take_up_to_end.Goals.{then-eq+else-at-piece+else-piece-at-eq10, else-eq}
 
 pub returns-then-piece-at-eq10-clause-end : goal.returns-then-piece-at-eq10-clause-end
 returns-then-piece-at-eq10-clause-end c =

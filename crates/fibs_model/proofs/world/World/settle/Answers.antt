@@ -1,5 +1,4 @@
-use Rattle.std.proofs.Common.{◌≡◌, ◌≤◌, ◌+◌, ◌++◌, Some, None, sym, ap, subst, ◌∙◌, arith, slice_index, option_map}
-use Rattle.std.proofs.Common.{length}
+use Rattle.std.proofs.Common.{◌≡◌, ◌≤◌, ◌+◌, ◌++◌, Some, None, sym, ap, subst, ◌∙◌, arith, slice_index, option_map, length}
 use Rattle.fibs_commands.specs.Logins.{login_text}
 use Rattle.fibs_model.specs.CanRest.{asked_now, next_to_rest}
 use Rattle.fibs_model.specs.EventOf.{event_of}
@@ -7,8 +6,7 @@ use Rattle.fibs_model.specs.Settling.{Settled, settle_refusal}
 use Rattle.fibs_model.specs.WorldCalls.{machine_after}
 use Rattle.fibs_model.specs.WorldOf.{WorldValue}
 use Rattle.fibs_model.proofs.Likeness.Stepping.{tells, stands_for}
-use Rattle.fibs_model.proofs.Likeness.Settling.{nothing_done, told_settle, may_settle, way_goes_on}
-use Rattle.fibs_model.proofs.Likeness.Settling.{way_refused, way_ends, way_settles, way_stops}
+use Rattle.fibs_model.proofs.Likeness.Settling.{nothing_done, told_settle, may_settle, way_goes_on, way_refused, way_ends, way_settles, way_stops}
 use Rattle.fibs_model.proofs.world.World.settle.Goals as goal
 
 pub returns-in-Some-clause-refusal : goal.returns-in-Some-clause-refusal

@@ -2,8 +2,7 @@ use Rattle.std.proofs.Common.{◌≤◌, ◌+◌, ◌++◌, length, ap, ◌∙�
 use Rattle.std.specs.Prelude.{option_map}
 use Rattle.fibs_session.specs.Calls.SessionOf.{taken_of, texts_of}
 use Rattle.fibs_session.specs.History.Machine.{wire_of}
-use Rattle.fibs_model.proofs.Likeness.Hearing.{front, hears_none, hears_some, none_of, line_room, line_put}
-use Rattle.fibs_model.proofs.Likeness.Hearing.{some_left, none_left}
+use Rattle.fibs_model.proofs.Likeness.Hearing.{front, hears_none, hears_some, none_of, line_room, line_put, some_left, none_left}
 use Rattle.fibs_model.proofs.world.hearing.hear_line.Goals as goal
 
 pub note_line-requires : goal.note_line-requires

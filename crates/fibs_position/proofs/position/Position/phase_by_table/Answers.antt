@@ -4,8 +4,7 @@ use Rattle.std.proofs.lemmas.Int.{ints}
 use Rattle.fibs_position.specs.PositionValue.{position_value}
 use Rattle.fibs_position.specs.Phases.{phase_fits}
 use Rattle.fibs_position.specs.declared.phase.Phase.TheVariants.{Over, AnswerDouble, OpponentActs}
-use Rattle.fibs_position.proofs.DecidingLemmas.PhaseLines.{same_int, other_int, phase_over, phase_answer}
-use Rattle.fibs_position.proofs.DecidingLemmas.PhaseLines.{phase_opponent, phase_roll, phase_move, phase_passing}
+use Rattle.fibs_position.proofs.DecidingLemmas.PhaseLines.{same_int, other_int, phase_over, phase_answer, phase_opponent, phase_roll, phase_move, phase_passing}
 use Rattle.fibs_position.proofs.position.Position.phase_by_table.Goals as goal
 use Rattle.fibs_position.proofs.position.Position.phase_by_table.Goals.{Else-self-eq0, Else-self-eq1, Else-self}
 

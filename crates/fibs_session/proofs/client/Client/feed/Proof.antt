@@ -27,8 +27,7 @@ use ghost.Rules.{Toks}
 use mir.Syntax.{named}
 use mir.Val.{Val, vptr}
 use types.ByLocal.{alloc_all, pass_all, free_all, look_at, get, through, sets, lands_as}
-use types.Kit.{‵, raw, ◌⊛◌, some, later, ◌$◌, ◌∵◌, !, qed, done, move, keep, use0, use1, use2, use3, split, join}
-use types.Kit.{fsplit, fsplit3, fjoin, feq_i, pick, await, suffices, group}
+use types.Kit.{‵, raw, ◌⊛◌, some, later, ◌$◌, ◌∵◌, !, qed, done, move, keep, use0, use1, use2, use3, split, join, fsplit, fsplit3, fjoin, feq_i, pick, await, suffices, group}
 use types.Logic.{lfts}
 use types.Run.{enter, addr, stop, no_more, and_then, returns}
 use types.Tokens.{lft_new, lft_end, name_done}

@@ -1,13 +1,11 @@
-use Rattle.std.proofs.Common.{◌≡◌, ◌≤◌, ◌+◌, ◌∙◌, ◌∷◌, ◌++◌, ◌^◌, [], arith, drop, get_or, refl, sym, ap, take, true}
-use Rattle.std.proofs.Common.{length-drop, take-append-drop}
+use Rattle.std.proofs.Common.{◌≡◌, ◌≤◌, ◌+◌, ◌∙◌, ◌∷◌, ◌++◌, ◌^◌, [], arith, drop, get_or, refl, sym, ap, take, true, length-drop, take-append-drop}
 use Rattle.std.specs.Prelude.{pos}
 use Rattle.std.proofs.Math.Nat.{pow-le-pow_right}
 use Rattle.std.proofs.lemmas.Bool.Decides.{nat_tests}
 use Rattle.std.proofs.lemmas.List.{drop-drop, length-take-le}
 use Rattle.fibs_fields.specs.Decimal.{is_positive}
 use Rattle.fibs_fields.specs.declared.values.Values.TheVariants.{Between}
-use Rattle.fibs_show.proofs.LineLemmas.RightNumbers.{byte_then, digit_number, digit_then}
-use Rattle.fibs_show.proofs.LineLemmas.RightNumbers.{digits_number, number_right}
+use Rattle.fibs_show.proofs.LineLemmas.RightNumbers.{byte_then, digit_number, digit_then, digits_number, number_right}
 use Rattle.fibs_show.proofs.copied_lines.quick.pass_number.Goals as goal
 
 pub returns-then-digit_at-clause-right : goal.returns-then-digit_at-clause-right

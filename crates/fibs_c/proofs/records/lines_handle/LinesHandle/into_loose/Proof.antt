@@ -10,8 +10,7 @@ use contract.Monad.{fact, fact_i}
 use contract.Running.{tables}
 use types.Kit.{‵, raw, ◌⊛◌, prop, at_ret, ◌$◌, ◌∵◌, !, qed, by, move, drop, use0, use1, split, regoal, fsplit, fjoin}
 use types.Part.{agg, sub, whole}
-use types.Run.{stop, fld, lit, of_opd, bin, no_more, and_then, first}
-use types.Run.{branches, skips, exec, returns, returns_within, enter}
+use types.Run.{stop, fld, lit, of_opd, bin, no_more, and_then, first, branches, skips, exec, returns, returns_within, enter}
 use types.ByLocal.{alloc_all, pass_all, free_all, look_at, get, get_in, sets, env}
 use types.Match.{live}
 use denote.Exit.{yes}

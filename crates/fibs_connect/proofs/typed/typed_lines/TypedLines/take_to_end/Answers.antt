@@ -1,5 +1,4 @@
-use Rattle.std.proofs.Common.{◌-◌, ◌++◌, ℕ, List, length, take, drop, is_some, ap, sym}
-use Rattle.std.proofs.Common.{◌∙◌}
+use Rattle.std.proofs.Common.{◌-◌, ◌++◌, ℕ, List, length, take, drop, is_some, ap, sym, ◌∙◌}
 use Rattle.fibs_fields.specs.Split.{before, after, seen}
 use Rattle.fibs_connect.specs.TypedLines.{rest_or_nothing}
 use Rattle.fibs_connect.proofs.TypedLemmas.Cuts.{window-rest, window-fits, take-none}

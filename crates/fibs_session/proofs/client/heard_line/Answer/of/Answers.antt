@@ -1,6 +1,5 @@
 use Rattle.std.proofs.Common.{◌≡◌, ◌∙◌, false, refl, ap, sym}
-use Rattle.fibs_lines.specs.Lines.{ReadLine}
-use Rattle.fibs_lines.specs.Lines.{value_of}
+use Rattle.fibs_lines.specs.Lines.{ReadLine, value_of}
 use Rattle.fibs_messages.specs.Line.{reading_value}
 use Rattle.fibs_position.specs.GamePart.{same_game}
 use Rattle.fibs_session.specs.History.Hearing.{line_reading}
