@@ -31,7 +31,7 @@ pub struct Offers {
 
 impl Offers {
     /// Whether something may be decided now.
-    pub fn may_decide(&self) -> bool
+    pub(crate) fn may_decide(&self) -> bool
         ensures { result ≡ may_decide self.now }
     {
         self.roll || self.double || self.accept || self.reject || self.example.is_some()
@@ -50,7 +50,7 @@ pub(crate) fn first_way(roll: bool, example: Option<Play>) -> Option<Decision>
 }
 
 /// Whether the client takes a decision now.
-pub fn is_taken(client: &Client, decision: &Decision) -> bool
+pub(crate) fn is_taken(client: &Client, decision: &Decision) -> bool
     ensures { (t : Talk) → StandsAfter client.now t → result ≡ is_taken t (decision_of decision.now) }
 {
     client.refusal(decision).is_none()
@@ -112,7 +112,7 @@ fn hint_words(roll: bool, double: bool, accept: bool, reject: bool) -> &'static 
 }
 
 /// Appends what may be decided, and how it is typed; appends nothing if nothing may be decided.
-pub fn append_offers(offers: &Offers, text: &mut Vec<u8>) -> Result<(), AllocError>
+pub(crate) fn append_offers(offers: &Offers, text: &mut Vec<u8>) -> Result<(), AllocError>
     ensures { OnOk result (text.new.items ≡ text.old.items ++ hint_text offers.now) }
 {
     let words = hint_words(offers.roll, offers.double, offers.accept, offers.reject);

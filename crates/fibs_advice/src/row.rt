@@ -81,7 +81,7 @@ impl Row {
     }
 
     /// Whether it says what the client takes now.
-    pub fn shows_offers(self) -> bool
+    pub(crate) fn shows_offers(self) -> bool
         ensures { result ≡ shows_offers self }
     {
         matches!(
@@ -98,7 +98,7 @@ impl Row {
     }
 
     /// Whether it says that the user may roll, and of a double only what became of one.
-    pub fn rolls_alone(self) -> bool
+    pub(crate) fn rolls_alone(self) -> bool
         ensures { result ≡ rolls_alone self }
     {
         matches!(self, Row::Undoubled | Row::Accepted)

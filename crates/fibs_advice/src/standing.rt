@@ -83,14 +83,14 @@ pub enum Shown {
 
 impl Standing {
     /// Whether a decision that waits may be made once more: the server has shown the board again that it was made on.
-    pub fn repeats(self) -> bool
+    pub(crate) fn repeats(self) -> bool
         ensures { result ≡ repeats self }
     {
         matches!(self, Standing::Same | Standing::Back)
     }
 
     /// Whether an offer waits for the user of which texts alone tell.
-    pub fn owes_answer(self) -> bool
+    pub(crate) fn owes_answer(self) -> bool
         ensures { result ≡ owes_answer self }
     {
         matches!(
@@ -113,7 +113,7 @@ impl Standing {
 
     /// Whether what the client takes is not what the user waits for: there is no game, or its board is still to come,
     /// or an offer is before the opponent or was just answered, or may be open, or gives the turn away.
-    pub fn hides_offers(self) -> bool
+    pub(crate) fn hides_offers(self) -> bool
         ensures { result ≡ hides_offers self }
     {
         matches!(

@@ -1,7 +1,7 @@
 //! The accounts of `fibs replay` and `fibs connect` as JSON: an object for each line that is printed without it.
 
-pub mod endings;
-pub mod entries;
+mod endings;
+mod entries;
 pub mod front;
 pub mod laws;
 mod parts;

@@ -48,7 +48,7 @@ fn append_name<T: Display + Drop>(name: T, line: &mut OwnLine) -> Result<(), Fro
 }
 
 /// Prints a line that says why something was not done: a label, and the number and the name of the reason.
-pub fn print_reason<T: Display + Drop, W: Write>(
+pub(crate) fn print_reason<T: Display + Drop, W: Write>(
     label: &[u8],
     number: u8,
     name: T,

@@ -11,8 +11,8 @@ ghost use Rattle.fibs_engine.specs.Reads.{LostAtMost, turn_limit};
 
 mod hearing;
 pub mod laws;
-pub mod loss;
-pub mod sending;
+pub(crate) mod loss;
+pub(crate) mod sending;
 mod turn_fault;
 mod typing;
 
@@ -116,7 +116,7 @@ pub fn talk<S: Link, F: Front>(
 /// A turn of a client that is offline: the typed line is answered, and nothing is read. It ends as `Quiet`.
 ///
 /// Errors: `Output` if the front end fails.
-pub fn talk_offline<F: Front>(
+pub(crate) fn talk_offline<F: Front>(
     client: &mut Client,
     typed: Option<&[u8]>,
     front: &mut F,

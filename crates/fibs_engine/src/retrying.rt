@@ -21,7 +21,7 @@ fn is_interrupted(error: &io::Error) -> bool
 }
 
 /// Reads as `read` does, and again if a signal interrupts it.
-pub fn read_retrying<R: Read>(reader: &mut R, buf: &mut [u8]) -> io::Result<usize>
+pub(crate) fn read_retrying<R: Read>(reader: &mut R, buf: &mut [u8]) -> io::Result<usize>
     ensures bound { ReadsAtMost result buf.new }
     ensures bytes { ReadConsumes (R.remaining reader.old) (R.remaining reader.new) result buf.new }
 {
@@ -35,7 +35,7 @@ pub fn read_retrying<R: Read>(reader: &mut R, buf: &mut [u8]) -> io::Result<usiz
 }
 
 /// Writes as `write` does, and again if a signal interrupts it.
-pub fn write_retrying<W: Write>(writer: &mut W, buf: &[u8]) -> io::Result<usize>
+pub(crate) fn write_retrying<W: Write>(writer: &mut W, buf: &[u8]) -> io::Result<usize>
     ensures bound { WritesAtMost result buf.now }
     ensures bytes { WriteAppends (W.contents writer.old) (W.contents writer.new) result buf.now }
 {

@@ -106,7 +106,7 @@ fn long_unsigned(text: &[u8]) -> Result<u64, Fault>
 
 /// The number of a canonical decimal without sign.
 #[inline(always)]
-pub fn unsigned_number(text: &[u8]) -> Result<u64, Fault>
+pub(crate) fn unsigned_number(text: &[u8]) -> Result<u64, Fault>
     ensures { result ≡ unsigned_value text.now }
 {
     match short_unsigned(text) {
@@ -202,7 +202,7 @@ fn in_range(values: Values, number: Option<i64>) -> Result<i32, Fault>
 
 /// The number of one digit that a field may have.
 #[inline(always)]
-pub fn digit_in(values: Values, digit: u8) -> Result<i32, Fault>
+pub(crate) fn digit_in(values: Values, digit: u8) -> Result<i32, Fault>
     ensures { result ≡ number_in values (digit ∷ []) }
 {
     in_range(values, one_byte(digit))
@@ -210,7 +210,7 @@ pub fn digit_in(values: Values, digit: u8) -> Result<i32, Fault>
 
 /// The number of a canonical decimal that a field may have.
 #[inline(always)]
-pub fn number_in(values: Values, text: &[u8]) -> Result<i32, Fault>
+pub(crate) fn number_in(values: Values, text: &[u8]) -> Result<i32, Fault>
     ensures { result ≡ number_in values text.now }
 {
     // Nearly all numbers of a board are one byte or two.
@@ -222,7 +222,7 @@ pub fn number_in(values: Values, text: &[u8]) -> Result<i32, Fault>
 }
 
 /// The number of a canonical decimal that has 64 bits and no sign.
-pub fn unsigned_in(text: &[u8]) -> Result<u64, Fault>
+pub(crate) fn unsigned_in(text: &[u8]) -> Result<u64, Fault>
     ensures { Gives (λ n. pos n) result (number_in number_values text.now) }
 {
     match unsigned_number(text) {
@@ -232,7 +232,7 @@ pub fn unsigned_in(text: &[u8]) -> Result<u64, Fault>
 }
 
 /// Whether a flag is 1.
-pub fn flag_in(text: &[u8]) -> Result<bool, Fault>
+pub(crate) fn flag_in(text: &[u8]) -> Result<bool, Fault>
     ensures { Gives (λ b. if b then pos 1 else pos 0) result (number_in flag_values text.now) }
 {
     let number = number_in(Values::Between(0, 1), text)?;

@@ -3,7 +3,7 @@
 #![tactic(auto)]
 
 pub mod boards;
-pub mod dash;
+mod dash;
 pub mod decimal;
 pub mod fault;
 pub mod fixed;
@@ -15,5 +15,5 @@ pub mod reader;
 mod runs;
 pub mod split;
 pub mod trailing_spaces;
-pub mod values;
+mod values;
 pub mod word;

@@ -35,7 +35,7 @@ fn hundredths(fraction: Option<&[u8]>) -> Option<u64>
 }
 
 /// The hundredths that the text says.
-pub fn rating_in(text: &[u8]) -> Result<u32, Fault>
+pub(crate) fn rating_in(text: &[u8]) -> Result<u32, Fault>
     ensures { result ≡ rating_in text.now }
 {
     let (whole, fraction) = split(text, b'.');

@@ -50,7 +50,7 @@ impl<'a> Fields<'a> {
 
     /// The next field, which has to be this word.
     #[tactic(auto, unfolding(crate::specs::FieldReading::next_at, crate::specs::FieldReading::text_at))]
-    pub fn this_word(&mut self, word: &[u8], field: usize) -> Result<(), FieldFault>
+    pub(crate) fn this_word(&mut self, word: &[u8], field: usize) -> Result<(), FieldFault>
         ensures { Gives (λ _. (word.now, left_of self.new)) result
             (next_at (this_word word.now) field (left_of self.old)) }
     {

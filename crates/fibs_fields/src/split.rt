@@ -9,7 +9,7 @@ use bstr::ByteSlice;
 
 /// The first byte of a text and what comes after the second, if that is `byte` and the first is not.
 #[inline(always)]
-pub fn one_before(text: &[u8], byte: u8) -> Option<(u8, &[u8])>
+pub(crate) fn one_before(text: &[u8], byte: u8) -> Option<(u8, &[u8])>
     ensures before { IfSome result (λ x. before byte text.now ≡ x.0 ∷ []) }
     ensures after { IfSome result (λ x. after byte text.now ≡ Some x.1.now) }
 {

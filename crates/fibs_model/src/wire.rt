@@ -47,7 +47,7 @@ pub fn whole_line(bytes: &[u8]) -> Option<usize>
 }
 
 /// How many bytes LF there are.
-pub fn line_ends(bytes: &[u8]) -> usize
+pub(crate) fn line_ends(bytes: &[u8]) -> usize
     ensures { result ≡ count_by is_line_end bytes.now }
 {
     bytes.iter().filter(|byte| **byte == b'\n').count()
@@ -123,7 +123,7 @@ impl Wire {
     }
 
     /// A wire with nothing on it, and room for so many bytes.
-    pub fn with_room(alloc: Global, room: usize) -> Result<Wire, AllocError>
+    pub(crate) fn with_room(alloc: Global, room: usize) -> Result<Wire, AllocError>
         ensures items { IfOk result (λ wire. wire.items ≡ []) }
         ensures room { IfOk result (λ wire. room ≤ wire.room) }
     {
@@ -134,7 +134,7 @@ impl Wire {
     }
 
     /// Makes room for more bytes. It is refused only if the wire is too full for them.
-    pub fn reserve(&mut self, more: usize) -> Result<(), AllocError>
+    pub(crate) fn reserve(&mut self, more: usize) -> Result<(), AllocError>
         ensures items { self.new.items ≡ self.old.items }
         ensures room { OnOk result (more ≤ self.new.room) }
         ensures full { OnErr result (self.old.room < more) }

@@ -10,14 +10,15 @@ mod layers;
 mod lines;
 mod names;
 mod picture;
-pub mod pips;
+mod pips;
 mod places;
 mod words;
-pub mod writing;
+mod writing;
 
 pub use cells::{MOST_SEEN, OWN_LETTER};
 pub use picture::{draw, draw_board, draw_watched};
 pub use places::{
     BOARD_COLUMNS, CUBE_ROW, DEED_ROW, DICE_ROW, PICTURE_COLUMNS, TURN_ROW, height_at, place_at,
 };
-pub use words::{FREE_CUBE, NO_DOUBLING, OPPONENTS_CUBE, OPPONENTS_TURN, doublers, shown_name};
+pub use words::{FREE_CUBE, NO_DOUBLING, OPPONENTS_CUBE, OPPONENTS_TURN};
+pub(crate) use words::{doublers, shown_name};

@@ -20,7 +20,7 @@ fn other_on(position: &Position, place: u8) -> u8
 
 /// How far the player's checkers have to go.
 #[tactic(auto, unfolding(crate::specs::Picture::own_pips))]
-pub fn own_pips(position: &Position) -> u32
+pub(crate) fn own_pips(position: &Position) -> u32
     ensures { result ≡ own_pips (position_value position.now).standing.checkers }
 {
     let mut pips = 0;
@@ -32,7 +32,7 @@ pub fn own_pips(position: &Position) -> u32
 
 /// How far the opponent's checkers have to go.
 #[tactic(auto, unfolding(crate::specs::Picture::other_pips))]
-pub fn other_pips(position: &Position) -> u32
+pub(crate) fn other_pips(position: &Position) -> u32
     ensures { result ≡ other_pips (position_value position.now).standing.checkers }
 {
     let mut pips = 0;

@@ -36,7 +36,7 @@ pub fn first_of(name: &[u8], room: usize) -> &[u8]
 }
 
 /// What is shown of a name: 30 bytes of it at most.
-pub fn shown_name(name: &[u8]) -> &[u8]
+pub(crate) fn shown_name(name: &[u8]) -> &[u8]
     ensures { result.now ≡ take 30 name.now }
 {
     first_of(name, NAME_ROOM)
@@ -76,7 +76,7 @@ pub fn write_dice<W: Write>(first: u8, second: u8, out: &mut W) -> io::Result<()
 }
 
 /// Who may double next.
-pub fn doublers(own: bool, other: bool) -> &'static [u8]
+pub(crate) fn doublers(own: bool, other: bool) -> &'static [u8]
     ensures { result.now ≡ doublers own other }
 {
     match (own, other) {

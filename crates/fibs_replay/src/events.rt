@@ -185,7 +185,7 @@ fn read_outside<'a>(word: &[u8], rest: &'a [u8]) -> Option<Event<'a>>
 /// which is empty if there is no space. N, K and C are decimals without leading zero up to 4,294,967,295, D1 and D2 up
 /// to 255.
 #[tactic(auto, unfolding(crate::specs::EventReading::event_in))]
-pub fn read_event(line: &[u8]) -> Option<Event<'_>>
+pub(crate) fn read_event(line: &[u8]) -> Option<Event<'_>>
     ensures none { IfNone result (IsNoEvent line.now) }
     ensures exact { (event : EventValue) → (option_map event_of result ≡ Some event) ↔ SaysEvent line.now event }
     ensures value { option_map event_of result ≡ event_in line.now }

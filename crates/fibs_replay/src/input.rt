@@ -15,7 +15,7 @@ use std::io::Read;
 /// more than 1,048,576 bytes: then it stops as soon as it knows that.
 ///
 /// Each read but the last gives a byte, so there are at most 1,048,577.
-pub fn read_script<R: Read>(
+pub(crate) fn read_script<R: Read>(
     alloc: Global,
     portion: &mut [u8],
     reader: &mut R,

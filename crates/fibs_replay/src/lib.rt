@@ -19,7 +19,7 @@ ghost use Rattle.fibs_replay.specs.Scripts.{SayScript, script_limit, script_line
 pub mod events;
 pub mod input;
 pub mod laws;
-pub mod limits;
+mod limits;
 pub mod log_lines;
 pub mod output;
 pub mod play_loop;
@@ -96,7 +96,7 @@ pub fn replay_over<C: Carrier, R: Read, W: Write>(
 }
 
 /// Prints the one line of a script that is not run.
-pub fn print_unrun<W: Write>(line: &LastLine, writer: &mut W) -> Result<u8, EngineFault>
+pub(crate) fn print_unrun<W: Write>(line: &LastLine, writer: &mut W) -> Result<u8, EngineFault>
     ensures { Printed 3 line.now.items result (W.contents writer.old) (W.contents writer.new) }
 {
     write_bytes(line.as_slice(), writer)?;

@@ -40,7 +40,7 @@ fn first_no_event(lines: &mut Lines<'_>) -> Option<usize>
 
 /// The number of the first line of a script that is unreadable, counted from 1; None if each is readable. The first
 /// line has to be there and to say a board, and each other one an event.
-pub fn first_unreadable(script: &[u8]) -> Option<usize>
+pub(crate) fn first_unreadable(script: &[u8]) -> Option<usize>
     requires { length script.now < 2 ^ 63 }
     ensures { ReadsScript result (script_lines script.now) }
 {

@@ -5,4 +5,4 @@ mod canonical;
 pub mod check;
 mod quick;
 
-pub use canonical::canonical_line;
+pub(crate) use canonical::canonical_line;

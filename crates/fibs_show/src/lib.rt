@@ -2,7 +2,7 @@
 #![tactic(auto)]
 
 pub mod copied_lines;
-pub mod line;
+mod line;
 mod page;
 pub mod plays;
 pub mod show;

@@ -12,6 +12,6 @@ mod worded;
 
 pub use boards::Boards;
 pub use picture::append_picture;
-pub use watched::{append_watched, append_watched_words};
+pub(crate) use watched::{append_watched, append_watched_words};
 pub use watching::Watching;
-pub use worded::append_words;
+pub(crate) use worded::append_words;

@@ -5,5 +5,5 @@ mod mirror;
 mod story;
 
 pub use finding::played;
-pub use mirror::mirrored;
+pub(crate) use mirror::mirrored;
 pub use story::Story;

@@ -1,7 +1,7 @@
 //! What a person at a terminal reads: messages, reasons, dates and lists in words.
 #![tactic(auto)]
 
-pub mod dates;
+mod dates;
 pub mod environment;
 pub mod help;
 pub mod invitations;

@@ -56,7 +56,7 @@ fn append_refused(done: usize, why: WorldRefusal, text: &mut Vec<u8>) -> Result<
 }
 
 /// Appends the object of a last line, with its end.
-pub fn append_last(last: Last, text: &mut Vec<u8>) -> Result<(), AllocError>
+pub(crate) fn append_last(last: Last, text: &mut Vec<u8>) -> Result<(), AllocError>
     ensures { OnOk result (text.new.items ≡ text.old.items ++ last_object last) }
 {
     match last {

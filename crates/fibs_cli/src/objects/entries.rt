@@ -197,7 +197,7 @@ pub fn append_object(entry: &Entry, text: &mut Vec<u8>) -> Result<(), AllocError
 }
 
 /// Appends the objects of a log.
-pub fn append_log(log: &[Entry], text: &mut Vec<u8>) -> Result<(), AllocError>
+pub(crate) fn append_log(log: &[Entry], text: &mut Vec<u8>) -> Result<(), AllocError>
     ensures { OnOk result ((shown : List ℕ) × LogObjects (map entry_of log.now) shown
         × (text.new.items ≡ text.old.items ++ shown)) }
 {

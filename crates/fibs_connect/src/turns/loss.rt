@@ -15,7 +15,10 @@ use crate::turns::{Ending, ExchangeFault};
 use fibs_session::Client;
 
 /// The connection is over.
-pub fn end_connection<F: Front>(client: &mut Client, front: &mut F) -> Result<Ending, ExchangeFault>
+pub(crate) fn end_connection<F: Front>(
+    client: &mut Client,
+    front: &mut F,
+) -> Result<Ending, ExchangeFault>
     ensures ended { IfOk result (λ e. (p : Progress) → (t : Talk) → StandsAfter client.old t →
         (wrote : Option (List ℕ)) → (players : List MessageValue) →
         Ended F.tells p t client.new (outside wrote front.old players) (outside wrote front.new players) e) }

@@ -35,7 +35,7 @@ fn wire_line<const N: usize>(command: &ArrayString<N>) -> WireLine
 }
 
 /// Writes a command and its line end, by one write if the stream takes all of it.
-pub fn send_command<S: Link, const N: usize>(
+pub(crate) fn send_command<S: Link, const N: usize>(
     command: &ArrayString<N>,
     stream: &mut S,
 ) -> Result<(), Unwritten>
@@ -48,7 +48,10 @@ pub fn send_command<S: Link, const N: usize>(
 }
 
 /// Writes the commands in order.
-pub(crate) fn send_commands<S: Link>(commands: &[AnswerText], stream: &mut S) -> Result<(), Unwritten>
+pub(crate) fn send_commands<S: Link>(
+    commands: &[AnswerText],
+    stream: &mut S,
+) -> Result<(), Unwritten>
     ensures wrote { Wrote (progress_of result) (S.contents stream.old) (S.contents stream.new)
         (wire_of (texts_of commands.now)) }
     ensures apart { Keeps (S.remaining stream.old) (S.remaining stream.new) }
@@ -60,7 +63,7 @@ pub(crate) fn send_commands<S: Link>(commands: &[AnswerText], stream: &mut S) ->
 }
 
 /// Writes a line past the client, and its line end, by one write if the stream takes all of it.
-pub fn send_as_it_is<S: Link>(line: &[u8], stream: &mut S) -> Result<(), Unwritten>
+pub(crate) fn send_as_it_is<S: Link>(line: &[u8], stream: &mut S) -> Result<(), Unwritten>
     requires { length line.now ≤ TYPED_LIMIT }
     ensures wrote { Wrote (progress_of result) (S.contents stream.old) (S.contents stream.new) (on_wire line.now) }
     ensures apart { Keeps (S.remaining stream.old) (S.remaining stream.new) }

@@ -305,7 +305,7 @@ fn message_line(number: u8, line: &[u8]) -> Option<&[u8]>
 ///
 /// None says nothing about the line.
 #[inline(always)]
-pub fn canonical_line(line: &[u8]) -> Option<&[u8]>
+pub(crate) fn canonical_line(line: &[u8]) -> Option<&[u8]>
     ensures { IfSome result (λ text. (m : MessageValue) × MessageText m line.now × (text.now ≡ canonical m)) }
 {
     let number = number_of(line)?;

@@ -71,7 +71,7 @@ fn check_fields(line: &[u8]) -> Result<&[u8], FieldFault>
 /// The line that is printed for the board that a line says, or the leftmost wrong field, as `Board::read` finds it.
 ///
 /// No board is made, and nothing is printed: a line that says a board is its spelling, but for the spaces at its end.
-pub fn check_board(line: &[u8]) -> Result<&[u8], FieldFault>
+pub(crate) fn check_board(line: &[u8]) -> Result<&[u8], FieldFault>
     // The text given is what is printed for the board that the line says.
     ensures found { IfOk (line_checked result)
         (λ text. (b : BoardFields) × BoardText b line.now × (text ≡ spelling b)) }

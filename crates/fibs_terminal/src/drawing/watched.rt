@@ -26,7 +26,7 @@ fn append_told(watched: &WatchedBoard, text: &mut Vec<u8>) -> Result<(), AllocEr
 /// Appends a board that the user watches in words, in rows that are no wider than the terminal.
 ///
 /// Errors: if memory runs out.
-pub fn append_watched_words(
+pub(crate) fn append_watched_words(
     alloc: Global,
     watched: &WatchedBoard,
     columns: usize,
@@ -125,7 +125,7 @@ fn append_marked_watched(
 /// Appends the picture of a board that the user watches, or the board in words.
 ///
 /// Errors: if memory runs out.
-pub fn append_watched(
+pub(crate) fn append_watched(
     alloc: Global,
     watched: &WatchedBoard,
     settings: &Settings<'_>,

@@ -62,7 +62,7 @@ pub(crate) fn is_wide(columns: usize) -> bool
 /// Appends a board in words, in rows that are no wider than the terminal.
 ///
 /// Errors: if memory runs out.
-pub fn append_words(
+pub(crate) fn append_words(
     alloc: Global,
     game: &GameBoard,
     columns: usize,

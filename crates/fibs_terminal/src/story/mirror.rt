@@ -65,7 +65,7 @@ fn with_borne_off(board: Board, of: &Board) -> Board
 
 /// A board as the opponent sees it: colours, directions, dice and the checkers borne off change sides. Each field may
 /// have what it is given.
-pub fn mirrored(board: &Board) -> Board
+pub(crate) fn mirrored(board: &Board) -> Board
     ensures { fields_of result ≡ mirrored (fields_of board.now) }
 {
     let turned = turned(board);
