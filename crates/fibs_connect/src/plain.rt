@@ -15,7 +15,8 @@ use crate::heard::print_heard;
 use crate::printing::{print, print_line, print_reason, text_bytes};
 use crate::said::Said;
 use arrayvec::ArrayVec;
-use fibs_engine::fixed::{append, append_number};
+use fibs_engine::fixed::append_number;
+use fibs_fields::fixed::append;
 use fibs_session::{DirectoryFault, Outstanding, PlainRefusal, Player};
 use std::io::Write;
 

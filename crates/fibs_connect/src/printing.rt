@@ -9,8 +9,9 @@ ghost use Rattle.fibs_connect.specs.Lines.{reason_line};
 use crate::fault::FrontFault;
 use arrayvec::{ArrayString, ArrayVec};
 use fibs_engine::escape::write_escaped;
-use fibs_engine::fixed::{append, append_number};
+use fibs_engine::fixed::append_number;
 use fibs_engine::writing::write_bytes;
+use fibs_fields::fixed::append;
 use std::fmt::Display;
 use std::io::Write;
 

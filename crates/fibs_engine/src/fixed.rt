@@ -3,7 +3,7 @@ ghost use Rattle.std.specs.Prelude.{◌≡◌, ◌≤◌, ◌+◌, ◌++◌};
 ghost use Rattle.arrayvec.specs.ArrayVec.{array_vec_len};
 
 use arrayvec::ArrayVec;
-pub use fibs_fields::fixed::append;
+use fibs_fields::fixed::append;
 use itoa::{Buffer, Integer};
 
 /// Appends a number if there is room for the longest of its type.

@@ -3,8 +3,9 @@ ghost use Rattle.std.specs.Prelude.{◌≡◌, ◌≤◌, length};
 ghost use Rattle.fibs_messages.specs.Line.{malformed_line};
 ghost use Rattle.fibs_engine.specs.Readings.{reading_text};
 
-use crate::fixed::{append, append_number};
+use crate::fixed::append_number;
 use arrayvec::ArrayVec;
+use fibs_fields::fixed::append;
 use fibs_messages::Fault;
 
 /// Long enough for each number, field and fault.

@@ -1,9 +1,9 @@
 //! Streams that keep why a call failed, and that reason in words.
 ghost use Rattle.std.specs.Prelude.{◌≡◌, ◌≤◌, length, None};
 
-use crate::fixed::append;
 use crate::writing::{Unwritten, write_bytes};
 use arrayvec::ArrayVec;
+use fibs_fields::fixed::append;
 use std::io;
 use std::io::{ErrorKind, Read, Write};
 

@@ -12,8 +12,8 @@ ghost use Rattle.fibs_replay.specs.Limits.{ask_len, board_len, entry_len, flag_l
 
 use crate::limits::WRITE_LEN;
 use arrayvec::ArrayVec;
-use fibs_engine::fixed::append;
 use fibs_fields::boards::Board;
+use fibs_fields::fixed::append;
 use fibs_model::Entry;
 use fibs_session::{Outstanding, Refusal};
 use itoa::Buffer;

@@ -17,7 +17,6 @@ use crate::page::Page;
 use fibs_engine::escape::{append_escaped, escape_from};
 use fibs_engine::malformed::malformed_text;
 use fibs_fields::boards::Board;
-pub use fibs_fields::decimal::append_number;
 use fibs_lines::Line;
 use fibs_messages::{Fault, Message, Reading, is_board_line, message_number, print_message, read};
 use std::alloc::{AllocError, Global};

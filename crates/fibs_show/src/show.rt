@@ -5,13 +5,14 @@ ghost use Rattle.fibs_engine.specs.Reads.{LostAtLeast, LostAtMost};
 ghost use Rattle.fibs_engine.specs.Streams.{Gains, TextGains};
 ghost use Rattle.fibs_show.specs.Show.{ShownLine, unfinished_text, WroteAll, WroteRead, WroteLines, WroteLinesOf, WroteFront};
 
-use crate::line::{append_line, append_number, put_line};
+use crate::line::{append_line, put_line};
 use crate::page::Page;
 use fibs_engine::fault::EngineFault;
 use fibs_engine::limits::{MOST_INPUT_READS, READ_PORTION};
 use fibs_engine::line_printer::{LinePrinter, print_stream};
 use fibs_engine::status::Status;
-pub use fibs_engine::stream_fault::StreamFault;
+use fibs_engine::stream_fault::StreamFault;
+use fibs_fields::decimal::append_number;
 use fibs_lines::{Line, Lines};
 use std::alloc::{AllocError, Global};
 use std::io::{Read, Write};

@@ -9,9 +9,9 @@ ghost use Rattle.fibs_engine.specs.Writing.{Wrote, progress_of};
 use crate::printing::text_bytes;
 use crate::typed_line::TYPED_LIMIT;
 use arrayvec::{ArrayString, ArrayVec};
-use fibs_engine::fixed::append;
 use fibs_engine::link::{Link, send_bytes};
 use fibs_engine::writing::Unwritten;
+use fibs_fields::fixed::append;
 use fibs_session::AnswerText;
 
 /// A command of at most 512 bytes and its line end.

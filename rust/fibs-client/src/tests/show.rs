@@ -1,7 +1,8 @@
 //! The engines over streams in memory.
 use super::outcomes::assert_is;
 use crate::fibs_engine::fault::EngineFault;
-use crate::fibs_show::show::{StreamFault, show, show_portions};
+use crate::fibs_engine::stream_fault::StreamFault;
+use crate::fibs_show::show::{show, show_portions};
 use crate::fibs_test_tools::devices::{Endless, FailsOnce};
 use crate::fibs_test_tools::outcome::Outcome;
 use crate::fibs_test_tools::pipe::{After, FAULT, Pipe};
