@@ -54,7 +54,7 @@ impl<'a> Name<'a> {
     }
 
     /// The bytes, which are a name.
-    pub(crate) fn of_valid(bytes: &'a [u8]) -> Name<'a>
+    pub fn of_valid(bytes: &'a [u8]) -> Name<'a>
         requires { is_name bytes.now ≡ true }
         ensures { name_bytes result ≡ bytes.now }
     {
