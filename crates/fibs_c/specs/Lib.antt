@@ -14,4 +14,5 @@ pub mod DirectoryDoor
 pub mod PlayerDoor
 -- What only private functions and proofs say.
 pub mod ReadingOn
+-- What C sees: records, statuses, handles and the wire.
 pub mod Records

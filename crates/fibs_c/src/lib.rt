@@ -1,5 +1,5 @@
-//! The library for C: lines, messages, boards, positions, the client and the directory. Each function has the clauses
-//! of the one that it calls; include/fibs.h says what a caller has to see to.
+//! The library for C: lines, messages, boards, positions, the client and the directory, with the records that C sees.
+//! Each function has the clauses of the one that it calls; include/fibs.h says what a caller has to see to.
 #![tactic(auto)]
 
 /// Does something with what a handle holds, which is taken out for it and then put back, and answers what that answers;

@@ -1,3 +1,4 @@
+-- Why the program and its accounts print what the definitions say.
 pub mod ProgramLemmas
 mod LogLemmas
 mod ReplayLemmas

@@ -1,3 +1,4 @@
+-- What a caller reads: what the program does with a command line, and the accounts as JSON.
 pub mod Program
 pub mod Entries
 pub mod Endings

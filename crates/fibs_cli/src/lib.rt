@@ -1,5 +1,5 @@
-//! `fibs`: a client for the First Internet Backgammon Server. The engines under one roof, and what the program does
-//! with a command line.
+//! All engines under their names, and what the program does with a command line: its words, its help, what needs no
+//! server, and the accounts of `replay` and `connect` as JSON.
 #![tactic(auto)]
 
 pub mod arguments;

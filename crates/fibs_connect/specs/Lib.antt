@@ -1,3 +1,5 @@
+-- What a conversation and a turn do, what is reported to a front end and printed for it, what is typed, and
+-- whether that or the server comes first.
 pub mod Converse
 pub mod Turns
 pub mod Told

@@ -1,9 +1,5 @@
-//! `fibs connect`: a player's conversation with the server. Typed lines, connections, and the seat of a player.
-//!
-//! Front ends, to which what happens is reported.
-//!
-//! Each says what a typed line asks for. The plain account is one. How typed lines are read, and that the server may
-//! speak between two of them, is in a folder of its own.
+//! `fibs connect`: a player's conversation with the server. The seat of a player, a turn of the client with its
+//! stream, the lines that a user types, and front ends, to which all that happens is reported.
 #![tactic(auto)]
 
 ghost use Rattle.std.specs.Prelude.{◌≡◌, ◌*◌, IfOk, IfErr};

@@ -1,5 +1,5 @@
 //! The fields of a line of a backgammon server, FIBS: how one is found, what its text says, and what is wrong with it;
-//! and how a number and a byte are written.
+//! how a number and a byte are written; and boards, by their fields.
 #![tactic(auto)]
 
 pub mod boards;

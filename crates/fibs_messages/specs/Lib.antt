@@ -1,4 +1,4 @@
--- What a caller reads: messages, and whole lines. Fields and boards are those of fibs_fields.
+-- What a caller reads: messages and whole lines, whose fields and boards are those of fibs_fields.
 pub mod Message
 pub mod FieldOf
 pub mod Flags
@@ -8,4 +8,5 @@ pub mod Bits
 pub mod LineReading
 pub mod Rated
 pub mod Settings
+-- What a caller reads: the directory of the players that the server listed.
 pub mod Directory

@@ -1,5 +1,5 @@
-//! Lines of a backgammon server, FIBS: its boards in board style 3 and its numbered messages (CLIP 1008), read and
-//! printed.
+//! Whole lines of a backgammon server, FIBS: boards in board style 3 and numbered messages (CLIP 1008), read and
+//! printed; and the directory of the players that the server listed.
 #![tactic(auto)]
 
 pub mod directory;

@@ -1,8 +1,5 @@
-//! A model of a backgammon server, and what holds of it, of the wires to it and of a client: the headline.
-//!
-//! Wires: the bytes on their way between a client and a server, one way, and the lines in them.
-//!
-//! A model of a backgammon server, what may happen to it and to a client, and what is noted of that.
+//! A model of a backgammon server, the wires to it and a client, in one world; and the world as a machine over its
+//! events, with what holds of it: the headline.
 #![tactic(auto)]
 
 pub mod carriers;

@@ -1,2 +1,3 @@
+-- Why pictures and words tell their boards.
 pub mod PictureLemmas
 pub mod WordsLemmas

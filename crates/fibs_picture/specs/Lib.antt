@@ -1,3 +1,4 @@
+-- A board as a picture, which tells its board and fits a terminal; and a board in words.
 pub mod Cells
 pub mod Halves
 pub mod Lines

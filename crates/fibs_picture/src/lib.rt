@@ -1,4 +1,4 @@
-//! A board drawn in plain ASCII, as its player sees it.
+//! A board as its player sees it: drawn in plain ASCII, and in words for a player who hears it.
 #![tactic(auto)]
 
 mod cells;

@@ -1,7 +1,5 @@
-//! Scripts of events, run by the model of a server: `fibs replay` runs one, and prints the log of the world;
+//! Scripts of events, read and run by the model of a server: `fibs replay` runs one, and prints the log of the world;
 //! `fibs loop` plays one over the sockets of one machine, and prints the same.
-//!
-//! Scripts of events: their lines are read, and what is printed for them is written.
 #![tactic(auto)]
 
 ghost use Rattle.std.specs.Prelude.{◌≡◌, ◌≤◌, ◌+◌, ◌∷◌, ◌⊎◌, ℕ, List, true, length, IfOk, IfSome, IfNone, IsErrOf};

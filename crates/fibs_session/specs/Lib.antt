@@ -1,4 +1,6 @@
+-- What is noted of a client, the client as a machine over its inputs, and what the calls do by it.
 pub mod History
 pub mod Calls
+-- What a line that a user types is.
 pub mod Typing
 pub mod TypedOf

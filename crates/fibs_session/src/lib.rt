@@ -1,4 +1,5 @@
-//! A player's session with a backgammon server: the commands that a player sends.
+//! The client of a backgammon server, from bytes to bytes: what it keeps of what the server said, what it answers, and
+//! why it refuses a decision; and what a line that a user types is. No call opens a socket.
 #![tactic(auto)]
 
 pub mod client;

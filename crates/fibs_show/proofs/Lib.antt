@@ -1,3 +1,4 @@
+-- Why what is printed is what the definitions say.
 pub mod ShowLemmas
 pub mod LiteralMessages
 pub mod PlaysLemmas

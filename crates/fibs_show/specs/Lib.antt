@@ -1,3 +1,4 @@
+-- What a caller reads: what is printed of a stream, and of the plays of a board.
 pub mod Show
 pub mod Plays
 -- What checking a line answered.

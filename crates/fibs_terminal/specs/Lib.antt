@@ -1,3 +1,4 @@
+-- What a terminal shows, says and does with a typed line, and the game so far.
 pub mod Asking
 pub mod Grown
 pub mod Resting

@@ -1,5 +1,5 @@
-//! A terminal: a front end for a person. It draws boards, says in words what happens, says once what may be typed, and
-//! takes words as players type them.
+//! A terminal: a front end for a person. It draws boards, says in words what happens, says once what may be typed,
+//! takes words as players type them, and keeps the game so far.
 #![tactic(auto)]
 
 mod commands;

@@ -1,4 +1,5 @@
-//! What a person at a terminal reads: messages, reasons, dates and lists in words.
+//! What a person at a terminal reads: messages, reasons, dates and lists in words; and what that terminal is, with
+//! the user's own settings.
 #![tactic(auto)]
 
 mod dates;
