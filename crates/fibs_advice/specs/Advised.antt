@@ -104,6 +104,7 @@ abbrev pub invite_words : List ℕ → List ℕ
 invite_words [] = []
 invite_words (byte ∷ rest) = codes ", and invite "
 
+-- the text of the row about a saved match: the words that resume it, and a full stop
 abbrev pub resumes_text : List ℕ → List ℕ
 resumes_text opponent = invite_words opponent ++ (opponent ++ codes ".\n")
 

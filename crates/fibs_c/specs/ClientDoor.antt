@@ -26,6 +26,7 @@ IsNewFor (Some fault) new name password status = (status ≡ 100 + plain_fault_n
 IsNewFor None None name password status = status ≡ 401
 IsNewFor None (Some c) name password status = (status ≡ 0) × StandsAfter c (start (login_text name password))
 
+-- the handle gets a client, or has one already
 abbrev pub IsNewClient : Option ClientValue → Option ClientValue → List ℕ → List ℕ → ℕ → Type 0
 IsNewClient (Some c) new name password status = (status ≡ 502) × (new ≡ Some c)
 IsNewClient None new name password status = IsNewFor (login_fault name password) new name password status
@@ -47,6 +48,7 @@ pub record Opens (old new : ClientValue) (wire wire' : WireRecord) (status : ℕ
   pub refusal : (t : Talk) → StandsAfter old t → status ≡ refusal_status (open_refusal t)
   pub kept : status ≢ 0 → (new ≡ old) × IsEmptied wire wire'
 
+-- a connection is opened, if the handle has a client
 abbrev pub IsOpened : Option ClientValue → Option ClientValue → WireRecord → WireRecord → ℕ → Type 0
 IsOpened None new wire wire' status = (status ≡ 501) × (new ≡ None) × IsEmptied wire wire'
 IsOpened (Some c) None wire wire' status = ⊥
@@ -58,6 +60,7 @@ pub record Decides (old new : ClientValue) (d : DecisionValue) (wire wire' : Wir
   pub refusal : (t : Talk) → StandsAfter old t → status ≡ refusal_status (answer_now t d)
   pub kept : status ≢ 0 → (new ≡ old) × IsEmptied wire wire'
 
+-- a decision is made, if the record says one and the handle has a client
 abbrev pub IsDecided : Option DecisionValue → Option ClientValue → Option ClientValue → WireRecord → WireRecord → ℕ → Type 0
 IsDecided None old new wire wire' status = (status ≡ 504) × (new ≡ old) × IsEmptied wire wire'
 IsDecided (Some d) None new wire wire' status = (status ≡ 501) × (new ≡ None) × IsEmptied wire wire'
@@ -70,6 +73,7 @@ pub record SendsPlain (old new : ClientValue) (p : PlainValue) (wire wire' : Wir
   pub refusal : (t : Talk) → StandsAfter old t → status ≡ plain_status (plain_refusal t p)
   pub kept : status ≢ 0 → (new ≡ old) × IsEmptied wire wire'
 
+-- a plain command is sent, if the number is that of one and the handle has a client
 abbrev pub IsPlainSent : Option PlainValue → Option ClientValue → Option ClientValue → WireRecord → WireRecord → ℕ → Type 0
 IsPlainSent None old new wire wire' status = (status ≡ 505) × (new ≡ old) × IsEmptied wire wire'
 IsPlainSent (Some p) None new wire wire' status = (status ≡ 501) × (new ≡ None) × IsEmptied wire wire'
@@ -82,6 +86,7 @@ pub record Loses (old new : ClientValue) (waited waited' : OutstandingRecord) (s
   pub does : DoesUnsaid old new Lose
   pub waited_is : (t : Talk) → StandsAfter old t → IsMaybeAsk waited waited' (unconfirmed_now t)
 
+-- the connection is lost, if the handle has a client
 abbrev pub IsLost : Option ClientValue → Option ClientValue → OutstandingRecord → OutstandingRecord → ℕ → Type 0
 IsLost None new waited waited' status = (status ≡ 501) × (new ≡ None) × (waited' ≡ waited)
 IsLost (Some c) None waited waited' status = ⊥

@@ -37,6 +37,7 @@ Notes old new (board_line b) status = (status ≡ 0) × (new ≡ old)
 Notes old new (text_line text) status = (status ≡ 0) × (new ≡ old)
 Notes old new (malformed_line n k f) status = (status ≡ 0) × (new ≡ old)
 
+-- a line is noted, if the handle has a directory
 abbrev pub IsNoted : Option (List MessageValue) → Option (List MessageValue) → ReadingValue → ℕ → Type 0
 IsNoted None new r status = (status ≡ 501) × (new ≡ None)
 IsNoted (Some d) None r status = ⊥

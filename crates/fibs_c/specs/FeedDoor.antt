@@ -65,6 +65,7 @@ pub record FeedsNothing (h h' : Heard) (text text' : List ℕ) (wire wire' : Wir
   pub text_is : text' ≡ text
   pub emptied : IsEmptied wire wire'
 
+-- a piece is fed, if the handle has a client
 abbrev pub IsFedInRoom : Option ClientValue → Option ClientValue → List ℕ → Heard → Heard → List ℕ → List ℕ → WireRecord
     → WireRecord → ℕ → Type 0
 IsFedInRoom None new piece h h' text text' wire wire' status =

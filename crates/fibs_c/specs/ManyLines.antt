@@ -67,6 +67,7 @@ pub record WantsRoom (old new : Option LinesValue) (told : Told) (status : ℕ) 
   pub one_row : told.lines ≡ 1
   pub one_line : told.bytes ≡ kept_limit
 
+-- the lines of a piece are read, if the room is as large as a line and there is a row
 abbrev pub AreLinesRead : Option LinesValue → Option LinesValue → List ℕ → Told → Told → List ToldLine
     → List ToldLine → List ℕ → List ℕ → ℕ → Type 0
 AreLinesRead old new piece told told' rows rows' text text' status =

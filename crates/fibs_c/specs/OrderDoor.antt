@@ -20,6 +20,7 @@ pub record DoesSilently (i : InputValue) (refusal : Talk → Option Refusal) (ol
   pub refused : (t : Talk) → StandsAfter old t → status ≡ refusal_status (refusal t)
   pub kept : status ≢ 0 → new ≡ old
 
+-- an order is given or withdrawn, if the handle has a client
 abbrev pub IsDone : InputValue → (Talk → Option Refusal) → Option ClientValue → Option ClientValue → ℕ → Type 0
 IsDone i refusal None new status = (status ≡ 501) × (new ≡ None)
 IsDone i refusal (Some c) None status = ⊥

@@ -17,9 +17,11 @@ abbrev pub number_told : Option ToldField → ℕ
 number_told None = 0
 number_told (Some v) = v.number
 
+-- the bytes of a field of a message
 abbrev pub bytes_at : MessageValue → ℕ → List ℕ
 bytes_at m n = bytes_told (option_map told_field (field_at n m.fields))
 
+-- the number of a field of a message
 abbrev pub number_at : MessageValue → ℕ → ℕ
 number_at m n = number_told (option_map told_field (field_at n m.fields))
 

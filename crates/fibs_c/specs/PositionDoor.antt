@@ -43,6 +43,7 @@ pub record HasNoPosition (line : List ℕ) (status : ℕ) : Type 0 where
 abbrev pub IsNoPosition : List ℕ → ℕ → Type 0
 IsNoPosition line status = IsWrongBoard line status ⊎ HasNoPosition line status
 
+-- the number of a phase, as C sees it
 abbrev pub phase_number : Phase → ℕ
 phase_number Over = 1
 phase_number AnswerDouble = 2
@@ -70,6 +71,7 @@ pub record TellsAllowed (line : List ℕ) (d : DecisionValue) (status : ℕ) : T
   pub is : IsPositionIn line position
   pub status_is : status ≡ allowed_status (refusal_of position d)
 
+-- the record says no decision, or the line no position, or the answer is that of the rules
 abbrev pub IsAllowedTold : List ℕ → Option DecisionValue → ℕ → Type 0
 IsAllowedTold line None status = status ≡ 504
 IsAllowedTold line (Some d) status = IsNoPosition line status ⊎ TellsAllowed line d status

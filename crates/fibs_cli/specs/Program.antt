@@ -27,6 +27,7 @@ pub record Streams : Type 0 where
   pub out : Option (List ℕ)
   pub err : Option (List ℕ)
 
+-- the three standard streams
 abbrev pub streams : Option (List ℕ) → Option (List ℕ) → Option (List ℕ) → Streams
 streams input out err = record { input = input; out = out; err = err }
 

@@ -49,6 +49,7 @@ said_kind (player_said told) = codes "player"
 abbrev pub command_member : List ℕ → List Member
 command_member text = member (codes "command") (string text) ∷ []
 
+-- the member of a decision that waited: its command, or null
 abbrev pub waited_members : Option Ask → List Member
 waited_members None = member (codes "command") null ∷ []
 waited_members (Some ask) = command_member (asked_text ask)

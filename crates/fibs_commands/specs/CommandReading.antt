@@ -28,6 +28,7 @@ place_in direction name =
     cond (bytes_eq name (codes "bar")) (Some 25)
     (cond (bytes_eq name (codes "off")) (Some 0) (numbered_place direction (decimal_up_to 24 name)))
 
+-- the place of which there is a name, seen in a direction
 abbrev pub place_after : Direction → Option (List ℕ) → Option ℕ
 place_after direction None = None
 place_after direction (Some name) = place_in direction name
@@ -43,6 +44,7 @@ step_between (Some source) (Some target) =
 unfoldable pub step_in : Direction → List ℕ → Option Hop
 step_in direction word = step_between (place_in direction (before 45 word)) (place_after direction (after 45 word))
 
+-- a step before later ones, if there are both
 abbrev pub step_then : Option Hop → Option (List Hop) → Option (List Hop)
 step_then None steps = None
 step_then (Some step) steps = option_map (λ later. step ∷ later) steps

@@ -56,6 +56,7 @@ plain_label P.Offline = codes "refused "
 plain_label P.NotOn = codes "refused "
 plain_label (P.Fault fault) = codes "fault "
 
+-- the line of a plain command that is refused
 abbrev pub plain_line : PlainRefusal → List ℕ
 plain_line why = reason_line (plain_label why) (plain_refusal_number why) (plain_refusal_name why)
 

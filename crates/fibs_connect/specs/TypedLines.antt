@@ -13,6 +13,7 @@ without_end part (Some more) = strip_carriage_return part
 abbrev pub typed_line : List ℕ → List ℕ
 typed_line typed = without_end (before 10 typed) (after 10 typed)
 
+-- what is left, if anything is
 abbrev pub rest_or_nothing : Option (List ℕ) → List ℕ
 rest_or_nothing None = []
 rest_or_nothing (Some more) = more

@@ -8,6 +8,7 @@ use Rattle.fibs_connect.specs.declared.wish.Wish.TheVariants as W
 abbrev pub typed_limit : ℕ
 typed_limit = 4096
 
+-- what a typed line asks for
 pub data WishValue : Type 0 where
   connects : WishValue  -- the conversation connects again
   lists_players : WishValue  -- it lists the players

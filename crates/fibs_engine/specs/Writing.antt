@@ -8,6 +8,7 @@ pub data Progress : Type 0 where
   Whole : Progress
   Broken : Progress
 
+-- how a write ended, by its result
 abbrev pub progress_of : Result ⊤ declared.Unwritten → Progress
 progress_of (Ok done) = Whole
 progress_of (Err why) = Broken

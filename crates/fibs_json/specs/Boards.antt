@@ -29,6 +29,7 @@ yes_field name n = member name (truth (int_eq n (pos 1)))
 abbrev pub dice_json : ℕ → ℕ → Json
 dice_json first second = if (first == 0) && (second == 0) then null else wholes (first ∷ second ∷ [])
 
+-- the dice that two fields of a board say
 abbrev pub dice_of : BoardFields → ℕ → ℕ → Json
 dice_of b first second = dice_json (natural (field_of b first)) (natural (field_of b second))
 
@@ -104,6 +105,7 @@ checkers_of side c = map (own_numbered side c) (range_with_len 0 26)
 abbrev pub pips_on : Side → Checkers → ℕ → ℕ
 pips_on side c place = place * own_numbered side c place
 
+-- the pips of a side: the sum over all places
 unfoldable pub pips_of : Side → Checkers → ℕ
 pips_of side c = sum (map (pips_on side c) (range_with_len 0 26))
 

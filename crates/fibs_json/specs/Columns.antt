@@ -14,6 +14,7 @@ pub record NamedField : Type 0 where
   pub name : List ℕ
   pub number : ℕ
 
+-- the field of a number under its name
 abbrev pub named : List ℕ → ℕ → NamedField
 named name number = record { name = name; number = number }
 
@@ -23,6 +24,7 @@ pub record NamedRow : Type 0 where
   pub word : List ℕ
   pub fields : List NamedField
 
+-- a row by its number, its word and its fields
 abbrev pub row : ℕ → List ℕ → List NamedField → NamedRow
 row number word fields = record { number = number; word = word; fields = fields }
 
@@ -30,12 +32,15 @@ row number word fields = record { number = number; word = word; fields = fields 
 abbrev pub a_name : List NamedField
 a_name = named (codes "name") 1 ∷ []
 
+-- the fields of a message with a name and a text
 abbrev pub a_name_and_text : List NamedField
 a_name_and_text = named (codes "name") 1 ∷ named (codes "text") 2 ∷ []
 
+-- the fields of a message with a text alone
 abbrev pub a_text : List NamedField
 a_text = named (codes "text") 1 ∷ []
 
+-- the fields of message 2, own info
 abbrev pub own_info : List NamedField
 own_info = named (codes "name") 1
     ∷ named (codes "allowpip") 2 ∷ named (codes "autoboard") 3 ∷ named (codes "autodouble") 4
@@ -46,6 +51,7 @@ own_info = named (codes "name") 1
     ∷ named (codes "redoubles") 18 ∷ named (codes "report") 19 ∷ named (codes "silent") 20
     ∷ named (codes "timezone") 21 ∷ []
 
+-- the fields of message 5, who info
 abbrev pub who_info : List NamedField
 who_info = named (codes "name") 1 ∷ named (codes "opponent") 2 ∷ named (codes "watching") 3
     ∷ named (codes "ready") 4 ∷ named (codes "away") 5 ∷ named (codes "rating") 6 ∷ named (codes "experience") 7
@@ -104,6 +110,7 @@ abbrev pub member_of : List ℕ → Option FieldValue → List Member
 member_of name None = []
 member_of name (Some value) = member name (field_json value) ∷ []
 
+-- the member of one field: its name, and its value as JSON
 abbrev pub field_member : List FieldValue → NamedField → List Member
 field_member fields named = member_of named.name (field_at named.number fields)
 

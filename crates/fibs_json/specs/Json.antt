@@ -73,6 +73,7 @@ pub record Member : Type 0 where
   pub name : List ℕ
   pub value : Json
 
+-- a member by its name and its value
 abbrev pub member : List ℕ → Json → Member
 member name value = record { name = name; value = value }
 
@@ -88,6 +89,7 @@ member_text m = key m.name ++ json_text m.value
 unfoldable pub more_member : Member → List ℕ
 more_member m = 44 ∷ member_text m
 
+-- further members, each after a comma
 abbrev pub more_members : List Member → List ℕ
 more_members ms = flat_map more_member ms
 

@@ -44,6 +44,7 @@ abbrev pub HeardAs : Bool → List ℕ → ReadingValue → List ℕ → Type 0
 HeardAs true bytes reading text = text ≡ line_object (codes "cut") bytes []
 HeardAs false bytes reading text = ReadObject bytes reading text
 
+-- the same of a line as the reader of lines lends it
 abbrev pub HeardObject : ReadLine → ReadingValue → List ℕ → Type 0
 HeardObject line reading text = HeardAs line.cut line.bytes reading text
 
@@ -52,6 +53,7 @@ abbrev pub ObjectAs : Bool → List ℕ → List ℕ → Type 0
 ObjectAs true bytes text = text ≡ line_object (codes "cut") bytes []
 ObjectAs false bytes text = (reading : ReadingValue) × IsReading bytes reading × ReadObject bytes reading text
 
+-- the same of a line as the reader of lines lends it
 abbrev pub LineObject : ReadLine → List ℕ → Type 0
 LineObject line text = ObjectAs line.cut line.bytes text
 

@@ -30,10 +30,12 @@ abbrev pub places : (Entry → Bool) → ℕ → List Entry → List ℕ
 places p n [] = []
 places p n (e ∷ later) = if p e then n ∷ places p (n + 1) later else places p (n + 1) later
 
+-- an entry says that a decision was sent on a connection
 abbrev pub is_sent : ℕ → Entry → Bool
 is_sent c (Sent d b m) = nat_eq d c
 is_sent c e = false
 
+-- an entry says that a decision took effect on a connection
 abbrev pub is_took : ℕ → Entry → Bool
 is_took c (Took d b m) = nat_eq d c
 is_took c e = false
@@ -136,6 +138,7 @@ pub record IsAtRest (w : World) : Type 0 where
   pub all_served : next_line (w.links w.logged_in).asked ≡ None
   pub all_delivered : (w.links w.logged_in).coming ≡ []
 
+-- the headline, of the world after a list of events: a field for each sentence
 pub record Headline (w : World) : Type 0 where
   -- The decisions that take effect on each connection, with the positions that they change, are a prefix of those sent
   -- there with the boards then shown:

@@ -44,6 +44,7 @@ served_by c (Took d b m) = one_if (nat_eq d c) (b, m)
 served_by c (Undone d b m) = one_if (nat_eq d c) (b, m)
 served_by c e = []
 
+-- the decisions of a connection that the log says were served, with their boards
 abbrev pub served : ℕ → List Entry → List Ask
 served c log = flat_map (served_by c) log
 
@@ -58,6 +59,7 @@ served_at (Shows b) = []
 served_at (Says t) = []
 served_at (Serves d) = d ∷ []
 
+-- the decisions without their boards
 abbrev pub decisions_of : List Ask → List DecisionValue
 decisions_of asks = map (λ (a : Ask). a.1) asks
 

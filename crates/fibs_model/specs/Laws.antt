@@ -16,8 +16,10 @@ Always holds =
     → MayBe (login_text name password) first events
     → holds (world_after (login_text name password) first events)
 
+-- the headline holds of each list of events
 abbrev pub HeadlineHolds : Type 0
 HeadlineHolds = Always Headline
 
+-- no list of events makes the server serve a stale line
 abbrev pub NothingServedIsStale : Type 0
 NothingServedIsStale = Always NoneStale

@@ -24,6 +24,7 @@ kept_of l = record { coming = l.coming; asked = l.asked; fresh = is_empty l.serv
 abbrev pub link_of : Link → LinkValue
 link_of l = record { coming = l.to_client.items; asked = l.to_server.items; fresh = l.fresh }
 
+-- the wires of all connections, as the machine sees them
 abbrev pub seen : List Link → List LinkValue
 seen links = map link_of links
 
@@ -39,5 +40,6 @@ set_link links c l = slice_set links (c - 1) l
 abbrev pub RoomToClient : List Link → ℕ → ℕ → Type 0
 RoomToClient links c n = (l : Link) → l ≡ get_or links (c - 1) l → n ≤ l.to_client.room
 
+-- there is room for n bytes more on the wire of connection c to the server
 abbrev pub RoomToServer : List Link → ℕ → ℕ → Type 0
 RoomToServer links c n = (l : Link) → l ≡ get_or links (c - 1) l → n ≤ l.to_server.room

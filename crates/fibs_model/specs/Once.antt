@@ -17,6 +17,7 @@ abbrev pub taken_by : Entry → List BoardFields
 taken_by (Took c b d) = b ∷ []
 taken_by e = []
 
+-- the boards on which the decisions of these entries took effect
 abbrev pub taken_on : List Entry → List BoardFields
 taken_on entries = flat_map taken_by entries
 

@@ -27,6 +27,7 @@ is_board_text [] = false
 is_board_text (l ∷ []) = reads_as_board (line_reading l)
 is_board_text (l ∷ m ∷ ls) = true
 
+-- why an event is refused now, if it is: the first reason of its row
 abbrev pub refusal : World → Event → Option WorldRefusal
 refusal w Open = if nat_eq (open_now w.log) 0 then None else Some AlreadyOpen
 refusal w (Click d) = None

@@ -36,6 +36,7 @@ abbrev pub left_of : Event → List ℕ → List ℕ
 left_of (Lose k) bytes = take k bytes
 left_of e bytes = bytes
 
+-- all entries are the server's
 abbrev pub AllServers : List Entry → Type 0
 AllServers [] = Unit {0}
 AllServers (e ∷ es) = IsServers e × AllServers es
@@ -51,6 +52,7 @@ pub record Silence (login : List ℕ) (w w' : World) : Type 0 where
   pub are_servers : AllServers entries
   pub talk : talk_of login w' ≡ noted (talk_of login w) entries []
 
+-- what an event does to the client's machine: a step if it is an input, else nothing
 abbrev pub Follows : List ℕ → World → Event → Option InputValue → Type 0
 Follows login w e (Some i) = Steps login w (after login w e) e i
 Follows login w e None = Silence login w (after login w e)

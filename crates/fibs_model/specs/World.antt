@@ -72,6 +72,7 @@ sends w line =
 abbrev pub does_heard : ℕ → World → Heard → World
 does_heard c w h = asks (noted w h.entries) c h.send
 
+-- the client of a connection hears a line that reads as x
 abbrev pub hears : ℕ → World → ReadingValue → World
 hears c w x = does_heard c w (heard c w.log x)
 
@@ -112,6 +113,7 @@ does_served c w Answered = sends w (spelling w.board)
 abbrev pub server_of : World → ServerValue
 server_of w = record { board = w.board; logged_in = w.logged_in }
 
+-- the line of c that it takes next, with the dice: the first if none was taken before
 abbrev pub line_of : World → ℕ → List ℕ → ℕ → ℕ → TakenLine
 line_of w c text d1 d2 =
     record { conn = c; first = is_empty (w.links c).served; text = text; die = d1; other_die = d2 }

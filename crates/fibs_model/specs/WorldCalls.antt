@@ -17,6 +17,7 @@ use Rattle.fibs_model.specs.declared.machine.refusal.WorldRefusal.TheVariants.{M
 abbrev pub machine_after : List ℕ → List ℕ → BoardFields → List Event → World
 machine_after name password first events = world_after (login_text name password) first events
 
+-- the value of a world is the one after these events, none of which was refused
 pub record IsAfter (v : WorldValue) (name password : List ℕ) (first : BoardFields) (events : List Event) : Type 0 where
   pub is_login : IsLogin name password
   pub is_good : IsGood first

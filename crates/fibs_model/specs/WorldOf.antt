@@ -22,6 +22,7 @@ pub record WorldValue : Type 0 where
   -- the connection that is open, or 0
   pub current : ℕ
 
+-- the value of the program's world
 abbrev pub world_of : Inside → WorldValue
 world_of w = record {
   server = w.server;

@@ -7,6 +7,7 @@ use Rattle.fibs_position.specs.declared.direction.Direction.{Direction}
 abbrev pub own_letter : ℕ
 own_letter = 79
 
+-- the letter of the other side's checkers, X
 abbrev pub other_letter : ℕ
 other_letter = 88
 

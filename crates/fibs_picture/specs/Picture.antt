@@ -38,6 +38,7 @@ abbrev pub left_first : Half → ℕ
 left_first half.Upper = 13
 left_first half.Lower = 12
 
+-- where the right six begin
 abbrev pub right_first : Half → ℕ
 right_first half.Upper = 19
 right_first half.Lower = 6
@@ -86,6 +87,7 @@ named letter name = letter ∷ 32 ∷ take 30 name
 unfoldable pub score : ℤ → List ℕ
 score n = codes "  score " ++ signed_decimal n
 
+-- how many checkers are off
 unfoldable pub off : ℤ → List ℕ
 off n = codes "  off   " ++ signed_decimal n
 
@@ -93,15 +95,19 @@ off n = codes "  off   " ++ signed_decimal n
 abbrev pub own_pips_on : Checkers → ℕ → ℕ
 own_pips_on c place = place * slice_index c.own place
 
+-- the same of the opponent, up to place 25
 abbrev pub other_pips_on : Checkers → ℕ → ℕ
 other_pips_on c place = (25 - place) * slice_index c.other place
 
+-- the pips of the player, over all places
 unfoldable pub own_pips : Checkers → ℕ
 own_pips c = sum (map (own_pips_on c) (range_with_len 0 26))
 
+-- the pips of the opponent, over all places
 unfoldable pub other_pips : Checkers → ℕ
 other_pips c = sum (map (other_pips_on c) (range_with_len 0 25))
 
+-- the row of the pips
 abbrev pub pips : ℕ → List ℕ
 pips n = codes "  pips  " ++ decimal n
 
@@ -109,6 +115,7 @@ pips n = codes "  pips  " ++ decimal n
 abbrev pub two_dice : ℕ → ℕ → List ℕ
 two_dice first second = if (first == 0) && (second == 0) then codes "-" else (48 + first) ∷ 32 ∷ (48 + second) ∷ []
 
+-- the row of the dice
 abbrev pub dice : ℤ → ℤ → List ℕ
 dice first second = codes "  dice  " ++ two_dice (natural first) (natural second)
 
@@ -127,6 +134,7 @@ doublers false false = codes ", no doubling"
 abbrev pub is_one : BoardFields → ℕ → Bool
 is_one b n = int_eq (field_of b n) (pos 1)
 
+-- what the row of the cube says
 unfoldable pub cube : BoardFields → List ℕ
 cube b = codes "cube " ++ (signed_decimal (field_of b 38) ++ doublers (is_one b 39) (is_one b 40))
 

@@ -23,6 +23,7 @@ turn_of turn colour player opponent =
     else (if int_eq turn colour then possessive own_letter player ++ codes " turn"
     else possessive other_letter opponent ++ codes " turn")
 
+-- whose turn it is, by the names of the two players
 unfoldable pub watched_turn : BoardFields → List ℕ
 watched_turn b = turn_of (turn b) (colour b) (take 23 b.player) (take 23 b.opponent)
 

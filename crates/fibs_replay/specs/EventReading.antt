@@ -62,6 +62,7 @@ joined_in word rest =
     (cond (bytes_eq word (codes "own")) (option_map (λ b. Own b) (board_in rest))
     (cond (bytes_eq word (codes "text")) (Some (Text rest)) None))))))))
 
+-- the event of a word and what follows it, if it has one
 abbrev pub event_of_word : List ℕ → Option (List ℕ) → Option Event
 event_of_word word None = alone_in word
 event_of_word word (Some rest) = joined_in word rest

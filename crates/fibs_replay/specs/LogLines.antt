@@ -31,6 +31,7 @@ abbrev pub unconfirmed_text : Option Ask → List ℕ
 unconfirmed_text None = []
 unconfirmed_text (Some ask) = 32 ∷ ask_text ask
 
+-- the line of an entry of the log
 unfoldable pub entry_line : Entry → List ℕ
 entry_line (Opened c) = of_connection (codes "opened") c
 entry_line (LoggedIn c) = of_connection (codes "loggedin") c

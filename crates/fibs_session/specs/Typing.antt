@@ -36,6 +36,7 @@ abbrev pub shown_direction : Option BoardFields → Direction
 shown_direction None = Down
 shown_direction (Some b) = direction_of b
 
+-- what a text is while the board is shown that is shown now
 abbrev pub typed_now : Talk → List ℕ → TypedValue
 typed_now t text = typed_as (read_command (shown_direction (shown_now t)) text) (read_plain text) (order_in text)
 

@@ -12,6 +12,7 @@ abbrev pub ShownAs : Bool → List ℕ → List ℕ → Type 0
 ShownAs true bytes text = text ≡ codes "cut " ++ escaped bytes
 ShownAs false bytes text = (reading : ReadingValue) × IsReading bytes reading × (text ≡ reading_text reading)
 
+-- the same of a line as the reader of lines lends it
 abbrev pub ShownLine : ReadLine → List ℕ → Type 0
 ShownLine line text = ShownAs line.cut line.bytes text
 

@@ -10,14 +10,17 @@ said_before (O.Points points) = codes "wants to play a "
 said_before O.Unlimited = codes "wants to play an unlimited match with you."
 said_before O.Saved = codes "wants to resume a saved match with you."
 
+-- the number of points of an invitation, if it has one
 abbrev pub said_points : Offered → List ℕ
 said_points (O.Points points) = decimal points
 said_points offered = []
 
+-- what follows the number
 abbrev pub said_after : Offered → List ℕ
 said_after (O.Points points) = codes " point match with you."
 said_after offered = []
 
+-- what is offered, in the words of the server
 abbrev pub offer_said : Offered → List ℕ
 offer_said offered = said_before offered ++ (said_points offered ++ said_after offered)
 

@@ -44,6 +44,7 @@ resigning Backgammon = 8
 abbrev pub zero_step : PlayStep
 zero_step = record { source = 0; target = 0 }
 
+-- four steps of zeros
 abbrev pub zero_steps : List PlayStep
 zero_steps = zero_step ∷ zero_step ∷ zero_step ∷ zero_step ∷ []
 
@@ -67,6 +68,7 @@ pub record IsMove (r : DecisionRecord) (steps : List Hop) : Type 0 where
 abbrev pub move_in : DecisionRecord → ℕ × ℕ × Bool × List Hop
 move_in r = (r.kind, r.count, nat_le r.count 4, hops_in r)
 
+-- the parts of a record that gives a move
 abbrev pub as_move : List Hop → ℕ × ℕ × Bool × List Hop
 as_move steps = (5, length steps, true, steps)
 

@@ -11,6 +11,7 @@ pub record ToldField : Type 0 where
   pub number : ℕ
   pub bytes : List ℕ
 
+-- what C sees of a field, by its kind
 abbrev pub told_field : FieldValue → ToldField
 told_field (NameField s) = record { kind = 1; number = 0; bytes = s }
 told_field (WordField s) = record { kind = 2; number = 0; bytes = s }

@@ -75,6 +75,7 @@ own_named n =
     else if nat_eq n 10 then codes "NoEffect" else if nat_eq n 11 then codes "NoDirection"
     else if nat_eq n 12 then codes "Taken" else []
 
+-- the name of a number in a family of statuses
 abbrev pub name_in : ℕ → ℕ → List ℕ
 name_in family n =
     if nat_eq family 0 then refusal_named n else if nat_eq family 1 then plain_fault_named n

@@ -26,6 +26,7 @@ pub record SeatValue : Type 0 where
   pub left : Option (List ℕ)
   pub wrote : Option (List ℕ)
 
+-- the value of a seat, by that of its client, of its directory and of its stream, if there is one
 abbrev pub seat_of : {S : Type 0} → (S → Option (List ℕ)) → (S → Option (List ℕ)) → ClientValue → List MessageValue
     → Option S → SeatValue
 seat_of remaining contents client players None =
@@ -103,6 +104,7 @@ pub record Unpassed {F : Type 0} (Tells : F → List SaidValue → F → Type 0)
       Ended Tells Broken t b.client (outside wrote held a.players) (outside wrote now b.players) ending
   pub over : b.connected ≡ false
 
+-- a line is sent as it is, or it is reported why not
 abbrev pub PassesOn : {F : Type 0} → (F → List SaidValue → F → Type 0) → List ℕ → SeatValue → SeatValue → F → F → Type 0
 PassesOn Tells line a b held now = Passed Tells line a b held now ⊎ Unpassed Tells line a b held now
 

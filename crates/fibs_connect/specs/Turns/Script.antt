@@ -18,6 +18,7 @@ pub record Outside (F : Type 0) : Type 0 where
   pub front : F
   pub players : Option (List MessageValue)
 
+-- the outside of a turn that has a directory
 abbrev pub outside : {F : Type 0} → Option (List ℕ) → F → List MessageValue → Outside F
 outside wrote front players = record { wrote = wrote; front = front; players = Some players }
 
@@ -62,15 +63,19 @@ abbrev pub noted_unless : Option DirectoryFault → List MessageValue → List M
 noted_unless None messages = messages
 noted_unless (Some why) messages = []
 
+-- the acts that were done
 abbrev pub acts_of : List Done → List Act
 acts_of = map (λ d. d.act)
 
+-- the bytes that they write, in order
 abbrev pub writes_of : List Done → List ℕ
 writes_of = flat_map (λ d. d.act.writes)
 
+-- what they report to the front end, in order
 abbrev pub tells_of : List Done → List SaidValue
 tells_of = flat_map done_told
 
+-- the messages that they note in the directory, but for those that it refuses
 abbrev pub notes_of : List Done → List MessageValue
 notes_of = flat_map (λ d. noted_unless d.refused d.act.notes)
 

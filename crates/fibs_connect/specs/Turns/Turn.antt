@@ -69,6 +69,7 @@ abbrev pub LeavesAs : Ending → Progress → Talk → ClientValue → Type 0
 LeavesAs Quiet p t new = StandsAfter new t × (p ≡ Whole)
 LeavesAs (Lost waited) p t new = StandsAfter new (step t Lose).talk × (option_map ask_of waited ≡ unconfirmed_now t)
 
+-- how a turn ends: what is reported of its end, and how the client is left
 pub record Ended {F : Type 0} (Tells : F → List SaidValue → F → Type 0) (p : Progress) (t : Talk) (new : ClientValue)
     (a b : Outside F) (e : Ending) : Type 0 where
   pub did : Did Tells a b (end_acts e) Whole

@@ -28,6 +28,7 @@ abbrev pub whose : ℤ → ℤ → Whose
 whose turn colour =
     if int_eq turn (pos 0) then nobodys else (if int_eq turn colour then the_players else the_opponents)
 
+-- whose turn it is, in words
 abbrev pub turn_said : Whose → List ℕ
 turn_said nobodys = codes "Nobody's turn"
 turn_said the_players = codes "Your turn"
@@ -42,6 +43,7 @@ phase_said phase.RollOrDouble = codes ", to roll."
 phase_said phase.Move = codes ", to move."
 phase_said phase.Passing = codes ", but you can't move."
 
+-- the row of the turn: whose it is, and what is to be done
 unfoldable pub turn_row : Whose → Phase → List ℕ
 turn_row whose phase = turn_said whose ++ phase_said phase
 
@@ -55,6 +57,7 @@ other_dice first second =
     if (first == 0) && (second == 0) then codes "."
     else codes ", the opponent's " ++ (pair first second ++ codes ".")
 
+-- the opponent's dice, if the player's are not shown
 abbrev pub lone_dice : ℕ → ℕ → List ℕ
 lone_dice first second =
     if (first == 0) && (second == 0) then codes "No dice."
@@ -76,6 +79,7 @@ score_row own other match =
 abbrev pub cube_shows : BoardFields → List ℕ
 cube_shows b = signed_decimal (field_of b 38) ++ doublers (is_one b 39) (is_one b 40)
 
+-- the row of the cube
 unfoldable pub cube_row : BoardFields → List ℕ
 cube_row b = codes "Cube " ++ (cube_shows b ++ codes ".")
 

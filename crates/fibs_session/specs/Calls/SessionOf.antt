@@ -44,6 +44,7 @@ abbrev pub handed : {E : Type 0} → Result CommandText E → List (List ℕ)
 handed (Ok command) = text_of command ∷ []
 handed (Err why) = []
 
+-- why there is no command, if there is none
 abbrev pub refusal_in : {E : Type 0} → Result CommandText E → Option E
 refusal_in (Ok command) = None
 refusal_in (Err why) = Some why
@@ -56,6 +57,7 @@ pub record TakenValue : Type 0 where
   pub confirmed : Option Ask
   pub rolled : Bool
 
+-- the value of an answer to a line
 abbrev pub taken_of : Taken → TakenValue
 taken_of t = record {
   line = value_of t.line;

@@ -63,6 +63,7 @@ confirmed_by_board c log b = if is_spent same_game c (log ++ Shown c b ∷ []) t
 abbrev pub shown_entries : ℕ → BoardFields → Bool → List Entry
 shown_entries c b rolls = Shown c b ∷ one_if rolls (Sent c b roll)
 
+-- a board is shown: what it confirms, and the roll that a standing order sends
 abbrev pub shows_board : ℕ → List Entry → BoardFields → Bool → Heard
 shows_board c log b rolls = record {
   entries = shown_entries c b rolls;

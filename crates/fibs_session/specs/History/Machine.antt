@@ -45,9 +45,11 @@ pub data InputValue : Type 0 where
 abbrev pub start : List ℕ → Talk
 start login = record { login = login; log = []; stream = []; commands = [] }
 
+-- the connection that is open; 0 if none is
 abbrev pub open_connection : Talk → ℕ
 open_connection t = open_now t.log
 
+-- a connection is open
 abbrev pub is_online : Talk → Bool
 is_online t = not (nat_eq (open_now t.log) 0)
 
@@ -79,6 +81,7 @@ opened t = record {
   commands = t.login ∷ [];
 }
 
+-- it opens a connection, if none is open
 abbrev pub opens : Talk → Outcome
 opens t = if is_online t then stays t else record { talk = opened t; send = t.login ∷ [] }
 
@@ -88,6 +91,7 @@ opens t = if is_online t then stays t else record { talk = opened t; send = t.lo
 abbrev pub unconfirmed_now : Talk → Option Ask
 unconfirmed_now t = unconfirmed same_game (open_now t.log) t.log
 
+-- it loses the connection, if one is open
 abbrev pub loses : Talk → Outcome
 loses t = if is_online t then does t (Lost (open_now t.log) (unconfirmed_now t) ∷ []) [] else stays t
 
@@ -97,6 +101,7 @@ loses t = if is_online t then does t (Lost (open_now t.log) (unconfirmed_now t) 
 abbrev pub heard_by : Talk → ReadingValue → Heard
 heard_by t r = heard (open_now t.log) t.log r
 
+-- it does what a line says
 abbrev pub hears : Talk → Heard → Outcome
 hears t h = does t h.entries h.send
 
@@ -118,6 +123,7 @@ with_bytes t bytes = record { login = t.login; log = t.log; stream = t.stream ++
 abbrev pub gained : List ℕ → List ℕ → List ReadLine
 gained before more = drop (length (lines_of before)) (lines_of (before ++ more))
 
+-- it reads a piece: it hears the lines that end in it, if a connection is open
 abbrev pub reads : Talk → List ℕ → Outcome
 reads t bytes = if is_online t then hears_all (with_bytes t bytes) (gained t.stream bytes) else stays t
 
@@ -141,6 +147,8 @@ decides_on t d None = stays t
 decides_on t d (Some b) =
     does t (Clicked (open_now t.log) d None ∷ Sent (open_now t.log) b d ∷ []) (command_of (direction_of b) d ∷ [])
 
+-- a click with the answer that it gets
+-- a click is noted with its answer, and sent if that is yes
 abbrev pub clicks_by : Talk → DecisionValue → Option Refusal → Outcome
 clicks_by t d (Some why) = does t (Clicked (open_now t.log) d (Some why) ∷ []) []
 clicks_by t d None = decides_on t d (last (shown (open_now t.log) t.log))
@@ -177,6 +185,8 @@ plain_refusal t p =
     else (if not (may_send t p) then Some P.NotOn
     else option_map P.Fault (plain_fault_of p))
 
+-- a plain command is sent, if it is not refused
+-- a plain command
 abbrev pub sends_plain : Talk → PlainValue → Option PlainRefusal → Outcome
 sends_plain t p (Some why) = stays t
 sends_plain t p None = does t [] (plain_of p ∷ [])
@@ -207,6 +217,8 @@ abbrev pub notes_if : Talk → Entry → Option Refusal → Outcome
 notes_if t e (Some why) = stays t
 notes_if t e None = does t (e ∷ []) []
 
+-- an order is given
+-- an order is withdrawn
 abbrev pub orders_on : Talk → Outcome
 orders_on t = notes_if t (Ordered (open_now t.log)) (order_refusal t.log)
 
@@ -232,6 +244,7 @@ run t (i ∷ is) = then_also (step t i).send (run (step t i).talk is)
 abbrev pub on_wire : List ℕ → List ℕ
 on_wire text = text ++ 13 ∷ 10 ∷ []
 
+-- commands as they are sent, one after another
 abbrev pub wire_of : List (List ℕ) → List ℕ
 wire_of = flat_map on_wire
 

@@ -14,6 +14,7 @@ PiecesJoin =
     (t : Talk) (p q : List ℕ)
     → step t (Piece (p ++ q)) ≡ then_also (step t (Piece p)).send (step (step t (Piece p)).talk (Piece q))
 
+-- a piece without a byte changes nothing
 abbrev pub EmptyPieceIsNothing : Type 0
 EmptyPieceIsNothing = (t : Talk) → step t (Piece []) ≡ stays t
 

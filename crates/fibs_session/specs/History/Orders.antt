@@ -30,5 +30,6 @@ pub record Due (c : ℕ) (log : List Entry) (b : BoardFields) : Type 0 where
   pub to_roll : phase_of b ≡ RollOrDouble
   pub yes : answer same_game allows log roll ≡ None
 
+-- the function and the relation agree
 abbrev pub DueOrders : Type 0
 DueOrders = (c : ℕ) (log : List Entry) (b : BoardFields) → (is_due c log b ≡ true) ↔ Due c log b

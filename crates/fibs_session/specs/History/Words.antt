@@ -82,21 +82,27 @@ orders_by c e = []
 abbrev pub connections : List Entry → ℕ
 connections log = length (flat_map opened_by log)
 
+-- the boards shown on a connection
 abbrev pub shown : ℕ → List Entry → List Board
 shown c log = flat_map (shown_by c) log
 
+-- the decisions sent on a connection, with their boards
 abbrev pub sent : ℕ → List Entry → List Ask
 sent c log = flat_map (sent_by c) log
 
+-- the decisions that took effect on a connection, with their boards
 abbrev pub took : ℕ → List Entry → List Ask
 took c log = flat_map (took_by c) log
 
+-- the welcomes of a connection
 abbrev pub welcomed : ℕ → List Entry → List ℕ
 welcomed c log = flat_map (welcomed_by c) log
 
+-- what was said on a connection of what the server plays by itself
 abbrev pub informed : ℕ → List Entry → List Flags
 informed c log = flat_map (informed_by c) log
 
+-- the standing orders of a connection: given or withdrawn
 abbrev pub orders : ℕ → List Entry → List Bool
 orders c log = flat_map (orders_by c) log
 
