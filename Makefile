@@ -26,7 +26,7 @@ TARGET =
 # the heap of the toolchain's library, over malloc, realloc and free
 KIT_ARCHIVE = $(dir $(shell rt doc))c/liblibc_c.a
 
-.PHONY: all lib test edits quick fmt dist install install-program install-surface install-lib \
+.PHONY: all lib test edits quick definitions fmt dist install install-program install-surface install-lib \
 	install-program-files install-lib-files dist-files bench bench-more clean help $(CRATES)
 
 all: ## proves and builds the program: bin/fibs, with bin/fibs-play beside it
@@ -53,6 +53,9 @@ quick: ## what needs no proof, on what make and make lib built, in three minutes
 
 $(CRATES): ## (the name of a crate) proves it, and what it uses
 	@scripts/prove $@
+
+definitions: ## lists the definitions that contracts cite, by their comments, in out/definitions
+	@scripts/definitions
 
 fmt: ## lays out the files of each crate
 	@for crate in $(CRATES); do (cd crates/$$crate && rt fmt) || exit 1; done

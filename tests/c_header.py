@@ -2,8 +2,8 @@
 """Compares include/fibs.h with the library for C: c_header.py ARCHIVE
 
 Each exported function of crates/fibs_c has its declaration, with the same parameters in the same order and types of
-the same layout; each record of it and of crates/fibs_records has the same fields in the same order; each enumerator
-and each macro has the library's own number; and the archive shows just these functions and those of lib/texts.c.
+the same layout; each record of it and of crates/fibs_c has the same fields in the same order; each enumerator and each
+macro has the library's own number; and the archive shows just these functions and those of lib/texts.c.
 Prints what differs, and then `N passed, M failed`.
 """
 

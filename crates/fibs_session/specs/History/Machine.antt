@@ -147,7 +147,6 @@ decides_on t d None = stays t
 decides_on t d (Some b) =
     does t (Clicked (open_now t.log) d None ∷ Sent (open_now t.log) b d ∷ []) (command_of (direction_of b) d ∷ [])
 
--- a click with the answer that it gets
 -- a click is noted with its answer, and sent if that is yes
 abbrev pub clicks_by : Talk → DecisionValue → Option Refusal → Outcome
 clicks_by t d (Some why) = does t (Clicked (open_now t.log) d (Some why) ∷ []) []
