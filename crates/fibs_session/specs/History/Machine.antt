@@ -147,11 +147,12 @@ decides_on t d None = stays t
 decides_on t d (Some b) =
     does t (Clicked (open_now t.log) d None ∷ Sent (open_now t.log) b d ∷ []) (command_of (direction_of b) d ∷ [])
 
--- a click is noted with its answer, and sent if that is yes
+-- a click with the answer that it gets
 abbrev pub clicks_by : Talk → DecisionValue → Option Refusal → Outcome
 clicks_by t d (Some why) = does t (Clicked (open_now t.log) d (Some why) ∷ []) []
 clicks_by t d None = decides_on t d (last (shown (open_now t.log) t.log))
 
+-- a click is noted with its answer, and sent if that is yes
 abbrev pub clicks : Talk → DecisionValue → Outcome
 clicks t d = clicks_by t d (answer_now t d)
 
@@ -190,6 +191,7 @@ abbrev pub sends_plain : Talk → PlainValue → Option PlainRefusal → Outcome
 sends_plain t p (Some why) = stays t
 sends_plain t p None = does t [] (plain_of p ∷ [])
 
+-- a plain command
 abbrev pub plains : Talk → PlainValue → Outcome
 plains t p = sends_plain t p (plain_refusal t p)
 
@@ -221,6 +223,7 @@ notes_if t e None = does t (e ∷ []) []
 abbrev pub orders_on : Talk → Outcome
 orders_on t = notes_if t (Ordered (open_now t.log)) (order_refusal t.log)
 
+-- an order is withdrawn
 abbrev pub withdraws : Talk → Outcome
 withdraws t = notes_if t (Withdrawn (open_now t.log)) (withdraw_refusal t.log)
 
