@@ -186,7 +186,6 @@ plain_refusal t p =
     else option_map P.Fault (plain_fault_of p))
 
 -- a plain command is sent, if it is not refused
--- a plain command
 abbrev pub sends_plain : Talk → PlainValue → Option PlainRefusal → Outcome
 sends_plain t p (Some why) = stays t
 sends_plain t p None = does t [] (plain_of p ∷ [])
