@@ -74,7 +74,12 @@ fn is_played_by(die: u8, step: &Step) -> bool {
 }
 
 /// The rule that a step breaks after others, if it breaks one by itself.
-fn broken_by(position: &Position, dice: (u8, u8), before: &[Step], step: &Step) -> Option<BrokenRule> {
+fn broken_by(
+    position: &Position,
+    dice: (u8, u8),
+    before: &[Step],
+    step: &Step,
+) -> Option<BrokenRule> {
     if step.source() != BAR && checkers_on(position, before, BAR) > 0 {
         return Some(BrokenRule::Bar);
     }
@@ -194,8 +199,15 @@ fn append_broken(
         BrokenRule::Empty(place) => {
             append_of_place(b"You have no checker on ", *place, direction, text)
         }
-        BrokenRule::Held(place) => append_of_place(b"Your opponent holds ", *place, direction, text),
-        BrokenRule::Outside => { text.extend_from_slice(b"No checker goes off before all are home.") }
+        BrokenRule::Held(place) => append_of_place(
+            b"Your opponent holds ",
+            *place,
+            direction,
+            text,
+        ),
+        BrokenRule::Outside => {
+            text.extend_from_slice(b"No checker goes off before all are home.")
+        }
         BrokenRule::Behind => text.extend_from_slice(b"A checker farther back goes first."),
         BrokenRule::Distance(step) => append_distance(step, direction, text),
         BrokenRule::MoreDice(most) => append_more_dice(*most, text),

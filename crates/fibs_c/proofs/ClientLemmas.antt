@@ -47,7 +47,8 @@ pub unsaid : (old new : ClientValue) (i : InputValue) → Does old new i [] → 
 unsaid old new i does = record { stands = does.stands; hands_none = λ t s. ap wire_of (does.hands t s) }
 
 -- a wire that is emptied twice is emptied
-pub emptied : (first cleared last : WireRecord) → IsEmptied first cleared → IsEmptied cleared last → IsEmptied first last
+pub emptied : (first cleared last : WireRecord) → IsEmptied first cleared → IsEmptied cleared last
+    → IsEmptied first last
 emptied first cleared last one other =
     record { len_is = other.len_is; bytes_are = other.bytes_are ∙ one.bytes_are }
 

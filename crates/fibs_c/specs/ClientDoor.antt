@@ -61,7 +61,8 @@ pub record Decides (old new : ClientValue) (d : DecisionValue) (wire wire' : Wir
   pub kept : status ≢ 0 → (new ≡ old) × IsEmptied wire wire'
 
 -- a decision is made, if the record says one and the handle has a client
-abbrev pub IsDecided : Option DecisionValue → Option ClientValue → Option ClientValue → WireRecord → WireRecord → ℕ → Type 0
+abbrev pub IsDecided : Option DecisionValue → Option ClientValue → Option ClientValue → WireRecord → WireRecord → ℕ
+    → Type 0
 IsDecided None old new wire wire' status = (status ≡ 504) × (new ≡ old) × IsEmptied wire wire'
 IsDecided (Some d) None new wire wire' status = (status ≡ 501) × (new ≡ None) × IsEmptied wire wire'
 IsDecided (Some d) (Some c) None wire wire' status = ⊥
@@ -74,7 +75,8 @@ pub record SendsPlain (old new : ClientValue) (p : PlainValue) (wire wire' : Wir
   pub kept : status ≢ 0 → (new ≡ old) × IsEmptied wire wire'
 
 -- a plain command is sent, if the number is that of one and the handle has a client
-abbrev pub IsPlainSent : Option PlainValue → Option ClientValue → Option ClientValue → WireRecord → WireRecord → ℕ → Type 0
+abbrev pub IsPlainSent : Option PlainValue → Option ClientValue → Option ClientValue → WireRecord → WireRecord → ℕ
+    → Type 0
 IsPlainSent None old new wire wire' status = (status ≡ 505) × (new ≡ old) × IsEmptied wire wire'
 IsPlainSent (Some p) None new wire wire' status = (status ≡ 501) × (new ≡ None) × IsEmptied wire wire'
 IsPlainSent (Some p) (Some c) None wire wire' status = ⊥

@@ -75,8 +75,8 @@ IsFedInRoom (Some c) (Some d) piece h h' text text' wire wire' status =
     (status ≡ 0) × Feeds c d piece h' text text' wire wire'
 
 -- the same if there is room for a line, and else nothing was done
-abbrev pub IsFed : Option ClientValue → Option ClientValue → List ℕ → Heard → Heard → List ℕ → List ℕ → WireRecord → WireRecord
-    → ℕ → Type 0
+abbrev pub IsFed : Option ClientValue → Option ClientValue → List ℕ → Heard → Heard → List ℕ → List ℕ → WireRecord
+    → WireRecord → ℕ → Type 0
 IsFed old new piece h h' text text' wire wire' status =
     ((length text < kept_limit) × (status ≡ 503) × (new ≡ old) × FeedsNothing h h' text text' wire wire')
     ⊎ ((kept_limit ≤ length text) × IsFedInRoom old new piece h h' text text' wire wire' status)

@@ -94,7 +94,11 @@ fn hand_out_plain(wire: &mut WireRecord, answer: &Result<CommandText, PlainRefus
 
 /// Opens a connection, and hands out the login command.
 #[unsafe(no_mangle)]
-pub extern "C" fn fibs_client_open(alloc: Global, client: &mut ClientHandle, wire: &mut WireRecord) -> u32
+pub extern "C" fn fibs_client_open(
+    alloc: Global,
+    client: &mut ClientHandle,
+    wire: &mut WireRecord,
+) -> u32
     ensures { IsOpened client.old.value client.new.value wire.old wire.new result }
 {
     clear(wire);

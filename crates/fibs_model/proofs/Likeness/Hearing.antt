@@ -54,7 +54,8 @@ one_line : (t : Talk) (conn : ℕ) (p : List ℕ) (l : ReadLine) → 0 < conn �
     → (step t (Piece p)).talk.log ≡ t.log ++ (heard conn t.log (line_reading l)).entries
 unfolding hears_all
 one_line t conn p l some h e =
-    ap (λ (s : Outcome). s.talk.log) (reads_lines t p (l ∷ []) (online t conn some h) (gains_lines t.stream p (l ∷ []) e))
+    ap (λ (s : Outcome). s.talk.log)
+    (reads_lines t p (l ∷ []) (online t conn some h) (gains_lines t.stream p (l ∷ []) e))
     ∙ ap (λ n. t.log ++ (heard n t.log (line_reading l)).entries) h
 
 -- reading a piece leaves the open connection
