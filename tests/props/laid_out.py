@@ -1,4 +1,4 @@
-"""What is badly laid out in the crates: wide lines, long files, imports that nothing uses, lemmas that say nothing."""
+"""What is badly laid out in the crates: wide lines, long files, idle or repeated imports, lemmas that say nothing."""
 import re
 
 WIDTH, LENGTH = 120, 800
@@ -10,8 +10,8 @@ FILES = ['crates/*/src/**/*.rt', 'crates/*/specs/**/*.antt', 'crates/*/proofs/**
 PROGRAMS = [*FILES, 'tests/**/*.py', 'tests/names', 'python/**/*.py', 'examples/**/*.py', 'scripts/*', 'rust/**/*.rs',
             'lib/*.c', 'js/*.js', 'js/*.ts']
 
-# The formatter joins an attribute on one line.
-JOINED = re.compile(r' *#!?\[tactic\(')
+# The formatter joins an attribute on one line, and a file has one line for each module from which it imports names.
+JOINED = re.compile(r' *#!?\[tactic\(| *(?:pub )?(?:ghost )?use [\w.]+\.\{[^{}]*\};?$')
 
 # Proof files with other names than these hold lemmas; these answer goals, whose names say what is asked.
 ANSWERS = {'Answers.antt', 'Invariants.antt', 'Proof.antt'}
@@ -23,6 +23,7 @@ MODULE = re.compile(r' *module ')
 # The names that a file imports for its clauses, definitions and proofs, and what its comments are.
 IMPORT = re.compile(r'(?m)^(?:ghost |pub )?use .*$')
 GHOST = re.compile(r'(?m)^(?:ghost )?use ([\w.]+)\.\{([^}]*)\};?$')
+FROM = re.compile(r'(?m)^((?:pub )?(?:ghost )?use [\w.]+)\.\{[^}]*\};?$')
 COMMENT = {'.rt': re.compile(r'//.*'), '.antt': re.compile(r'(?m)(?:^|(?<=\s))--.*$')}
 
 
@@ -38,7 +39,7 @@ def indent_of(line):
 
 
 def wide_lines(text):
-    """The lines that are wider than WIDTH, each with its number."""
+    """The lines that are wider than WIDTH, each with its number, but for those that are JOINED."""
     for number, line in enumerate(text.splitlines(), 1):
         if len(line) > WIDTH and not JOINED.match(line):
             yield number, 'has %d columns, and %d are the most' % (len(line), WIDTH)
@@ -55,6 +56,17 @@ def unused_names(text, suffix):
             parts = [part for part in name.split('◌') if part]
             if not (all(part in rest for part in parts) if '◌' in name or name == '[]' else name in words):
                 yield text.count('\n', 0, found.start()) + 1, 'nothing here uses `%s`' % name
+
+
+def repeated_imports(text, suffix):
+    """The lines at the left that import from a module of which an earlier one does, each with its number."""
+    seen = set()
+    for found in FROM.finditer(text):
+        if suffix == '.rt' and 'ghost ' not in found[1]:
+            continue
+        if found[1] in seen:
+            yield text.count('\n', 0, found.start()) + 1, 'an earlier line also has `%s`' % found[1]
+        seen.add(found[1])
 
 
 def part_after(lines, at, indent, own):
@@ -107,8 +119,10 @@ def faults(top):
     laid_out = set(files_of(top, FILES))
     for path in files_of(top, PROGRAMS):
         text = path.read_text(encoding='utf-8', errors='replace')
-        wrong = [*wide_lines(text), *unused_names(text, path.suffix)] if path in laid_out else []
-        if path.suffix == '.antt' and 'proofs' in path.parts and path.name not in ANSWERS:
+        wrong = []
+        if path in laid_out:
+            wrong += [*wide_lines(text), *unused_names(text, path.suffix), *repeated_imports(text, path.suffix)]
+        if path.suffix == '.antt' and 'proofs' in path.relative_to(top).parts and path.name not in ANSWERS:
             wrong += silent_lemmas(text)
         count = len(text.splitlines())
         if count > LENGTH:
