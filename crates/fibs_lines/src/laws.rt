@@ -28,21 +28,25 @@ pub fn answers_are_their_lines(a: &Fed<'_>, b: &Fed<'_>) -> bool
 }
 
 /// The finished lines and the rest are all the parts between the line ends.
+#[tactic(auto, using(crate::proofs::StreamLawProofs::parts_are_lines_and_rest))]
 pub fn parts_are_lines_and_rest()
     ensures { PartsAreLinesAndRest }
 {}
 
 /// The empty stream has no line, and is at a line's start.
+#[tactic(auto, using(crate::proofs::StreamLawProofs::empty_stream_has_no_line))]
 pub fn empty_stream_has_no_line()
     ensures { EmptyStreamHasNoLine }
 {}
 
 /// What comes later takes no line back and changes none.
+#[tactic(auto, using(crate::proofs::StreamLawProofs::lines_only_grow))]
 pub fn lines_only_grow()
     ensures { LinesOnlyGrow }
 {}
 
 /// A piece gives at most as many lines as it has bytes LF.
+#[tactic(auto, using(crate::proofs::EndsCounted::lines_are_at_most_the_line_ends))]
 pub fn lines_are_at_most_the_line_ends()
     ensures { LinesAreAtMostTheLineEnds }
 {}
@@ -53,6 +57,7 @@ pub fn line_end_is_a_line_start()
 {}
 
 /// CR LF ends just one line, whatever came before.
+#[tactic(auto, using(crate::proofs::LineEnds::line_end_ends_a_line))]
 pub fn line_end_ends_a_line()
     ensures { LineEndEndsALine }
 {}
@@ -68,16 +73,19 @@ pub fn what_follows_a_line_end_reads_alone()
 {}
 
 /// No line is longer than `LIMIT` bytes.
+#[tactic(auto, using(crate::proofs::StreamLawProofs::lines_fit))]
 pub fn lines_fit()
     ensures { LinesFit }
 {}
 
 /// A text that fits, begins with no prompt and has no LF and no byte 255 is read as it was sent.
+#[tactic(auto, using(crate::proofs::StreamLawProofs::sendable_text_is_its_line))]
 pub fn sendable_text_is_its_line()
     ensures { SendableTextIsItsLine }
 {}
 
 /// The prompts at the start of a line are removed, all of them and nothing else.
+#[tactic(auto, using(crate::proofs::StreamLawProofs::prompts_are_removed))]
 pub fn prompts_are_removed()
     ensures { PromptsAreRemoved }
 {}
