@@ -31,6 +31,7 @@ pub fn steps_swap()
 {}
 
 /// Each legal play can be carried out as the server carries plays out.
+#[tactic(auto, using(crate::proofs::RuleLemmas::LaxPlays::legal_lax))]
 pub fn legal_is_carried_out()
     ensures { LegalIsCarriedOut }
 {}

@@ -52,6 +52,7 @@ fn longest_from(p: &Arrangement, dice: &[u8], top: u8) -> u8
 }
 
 /// How many of these dice can be played one after another.
+#[tactic(auto, using(crate::proofs::SearchLemmas::FallingRuns::tried_is_longest))]
 pub(crate) fn longest(p: &Arrangement, dice: &[u8]) -> u8
     requires few { length dice.now ≤ 4 }
     requires dice { AreDice dice.now }
