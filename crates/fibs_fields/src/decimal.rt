@@ -24,6 +24,7 @@ fn are_digits(text: &[u8]) -> bool
 
 /// How many digits are at the front of a text.
 #[inline(always)]
+#[tactic(auto, using(crate::proofs::FieldLemmas::Runs::digits_run))]
 pub fn digit_run(text: &[u8]) -> usize
     ensures { result ≡ prefix_len is_ascii_digit text.now }
 {
@@ -222,6 +223,7 @@ pub(crate) fn number_in(values: Values, text: &[u8]) -> Result<i32, Fault>
 }
 
 /// The number of a canonical decimal that has 64 bits and no sign.
+#[tactic(auto, using(crate::proofs::NumberLemmas::Naturals::negative_refused))]
 pub(crate) fn unsigned_in(text: &[u8]) -> Result<u64, Fault>
     ensures { Gives (λ n. pos n) result (number_in number_values text.now) }
 {

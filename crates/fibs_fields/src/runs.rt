@@ -19,6 +19,7 @@ fn is_between(byte: u8, low: u8, high: u8, except: u8) -> bool
 
 /// A mask whose bit k is set if byte k of the window is below `low`, above `high`, or `except`.
 #[inline(always)]
+#[tactic(auto, using(crate::proofs::FieldLemmas::Runs::outside_mask))]
 fn outside(window: u8x16, low: u8, high: u8, except: u8) -> u64
     ensures { result ≡ mask_l (map (is_outside low high except) window) }
 {

@@ -18,6 +18,7 @@ pub fn print_reads_back(board: &Board) -> Result<Board, FieldFault>
 }
 
 /// Two boards have the same spelling exactly if they are equal.
+#[tactic(auto, using(crate::proofs::BoardLemmas::BoardTexts::spelling_same))]
 pub fn spellings_tell_boards()
     ensures { (a b : BoardFields) → IsBoard a → IsBoard b → (spelling a ≡ spelling b) ↔ (a ≡ b) }
 {}
@@ -37,6 +38,7 @@ pub fn prints_tell_boards(a: &Board, b: &Board) -> bool
 }
 
 /// A line that says a board is that board's spelling, but for the spaces at its end.
+#[tactic(auto, using(crate::proofs::BoardLemmas::CheckedLines::spelling_of_line))]
 pub fn lines_of_boards_are_their_spellings()
     ensures { (line : List ℕ) → (b : BoardFields) → BoardText b line → without_spaces line ≡ spelling b }
 {}
@@ -58,11 +60,13 @@ pub fn boards_are_valid()
 {}
 
 /// The test of boards is true of boards, and of nothing else.
+#[tactic(auto, using(crate::proofs::BoardLemmas::BoardTests::is_board_exact))]
 pub fn is_board_is_exact()
     ensures { (b : BoardFields) → (is_board b ≡ true) ↔ IsBoard b }
 {}
 
 /// Which numbers each group of fields may have, and that each board keeps to it.
+#[tactic(auto, using(crate::proofs::BoardLemmas::FieldRangeLaws::field_ranges))]
 pub fn fields_have_their_ranges()
     ensures { FieldRanges }
 {}
