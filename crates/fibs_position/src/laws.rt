@@ -89,6 +89,7 @@ pub fn allowed_is_the_users()
 }
 
 /// A decision that is allowed is carried out.
+#[tactic(auto, using(crate::proofs::LawLemmas::CarriedOut::allowed_carried))]
 pub fn allowed_is_carried_out()
     ensures { AllowedIsCarriedOut }
 {
@@ -96,6 +97,7 @@ pub fn allowed_is_carried_out()
 }
 
 /// A decision that is carried out leaves a good board, which differs from the one before.
+#[tactic(auto, using(crate::proofs::LawLemmas::CarriedOut::effect_good_differs))]
 pub fn effect_is_good()
     ensures { EffectIsGood }
 {
@@ -103,6 +105,7 @@ pub fn effect_is_good()
 }
 
 /// No three decisions are carried out one after another, without a board that comes from elsewhere.
+#[tactic(auto, using(crate::proofs::LawLemmas::InARow::no_three))]
 pub fn no_three_in_a_row()
     ensures { NoThreeInARow }
 {
@@ -110,6 +113,7 @@ pub fn no_three_in_a_row()
 }
 
 /// The test `good` is true of exactly the good boards, of all values of fields.
+#[tactic(auto, using(crate::proofs::BoardLemmas::GoodTest::good_is_exact))]
 pub fn good_is_exact()
     ensures { GoodIsExact }
 {
@@ -117,6 +121,7 @@ pub fn good_is_exact()
 }
 
 /// The test `watched` is true of exactly the boards that are watched, of all values of fields.
+#[tactic(auto, using(crate::proofs::BoardLemmas::WatchedTest::watched_is_exact))]
 pub fn watched_is_exact()
     ensures { WatchedIsExact }
 {
@@ -124,6 +129,7 @@ pub fn watched_is_exact()
 }
 
 /// A board that is watched is no board of the user's game: nothing is decided on it.
+#[tactic(auto, using(crate::proofs::BoardLemmas::WatchedTest::watched_is_not_good))]
 pub fn watched_is_not_good()
     ensures { WatchedIsNotGood }
 {
@@ -131,21 +137,25 @@ pub fn watched_is_not_good()
 }
 
 /// The test `same_game` fails exactly for boards that differ.
+#[tactic(auto, using(crate::proofs::BoardLemmas::SameGameTest::same_game_is_exact))]
 pub fn same_game_is_exact()
     ensures { SameGameIsExact }
 {}
 
 /// That boards do not differ is an equivalence.
+#[tactic(auto, using(crate::proofs::BoardLemmas::SameGameTest::same_game_is_a_likeness))]
 pub fn same_game_is_a_likeness()
     ensures { SameGameIsALikeness }
 {}
 
 /// A decision that the function `allowed_of` allows is the user's, whatever the fields are.
+#[tactic(auto, using(crate::proofs::LawLemmas::AllowedDecisions::allowed_decides))]
 pub fn allowed_decides()
     ensures { AllowedDecides }
 {}
 
 /// What is allowed on a good board is a decision that a player can make.
+#[tactic(auto, using(crate::proofs::LawLemmas::AllowedDecisions::allowed_is_a_decision))]
 pub fn allowed_is_a_decision()
     ensures { AllowedIsADecision }
 {
@@ -154,11 +164,13 @@ pub fn allowed_is_a_decision()
 }
 
 /// Every decision has at most four steps, each from a place or the bar to a place or off.
+#[tactic(auto, using(crate::proofs::LawLemmas::AllowedDecisions::decisions_are_valid))]
 pub fn decisions_are_valid()
     ensures { DecisionsAreValid }
 {}
 
 /// What is allowed on a good board is carried out with dice of 1 to 6, and leaves a good board, which differs.
+#[tactic(auto, using(crate::proofs::LawLemmas::AllowedDecisions::allowed_acts))]
 pub fn allowed_acts()
     ensures { AllowedActs }
 {

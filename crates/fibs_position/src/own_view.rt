@@ -185,6 +185,7 @@ pub fn arranged(own: &Placed, other: &Placed) -> Arrangement
 }
 
 /// The checkers of both sides as the player sees them.
+#[tactic(auto, unfolding(crate::specs::OwnView::own_view))]
 pub fn arrangement_of(board: &Board) -> Arrangement
     requires own { own_placed (fields_of board.now) ≤ 15 }
     requires other { other_placed (fields_of board.now) ≤ 15 }

@@ -78,6 +78,7 @@ impl Position {
     }
 
     /// The position of a board, whoever its player is, or which side has too many checkers.
+    #[tactic(auto, unfolding(crate::specs::OwnView::own_view))]
     pub(crate) fn seen(board: &Board) -> Result<Position, PositionFault>
         ensures few { let b = fields_of board.now in IsOk result ↔ (own_placed b ≤ 15) × (other_placed b ≤ 15) }
         ensures same { IfOk result (λ p. position_value p ≡ position_of (fields_of board.now)) }
