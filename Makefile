@@ -144,6 +144,8 @@ bin/plain_%: bench/plain_%.rs
 	mkdir -p bin
 	rustc -O -o $@ $<
 
+bin/plain_plays: bench/plain_rules.rs
+
 bench: all $(PEERS) ## measures: one table of goals and figures, beside other programs
 	scripts/prove fibs_bench
 	bench/table bin/fibs crates/fibs_bench/out/fibs_bench "$(PEER)" $(ROUNDS)

@@ -5,10 +5,13 @@
 //! what it prints, or, with status 1, the first line of which it prints something else. Files are written in FOLDER.
 //! Built by `rustc -O`.
 
+#[allow(dead_code)]
+mod chance;
 #[path = "../plain_show.rs"]
 #[allow(dead_code)]
 mod plain_show;
 
+use chance::Chance;
 use std::collections::BTreeMap;
 use std::env;
 use std::fs::{self, File};
@@ -41,34 +44,6 @@ const LENGTHS: [usize; 5] = [16_383, 16_384, 16_385, 16_390, 20_000];
 /// Of how many lines one is made so long.
 const LONG_IN: usize = 200_000;
 
-/// A generator of numbers: xorshift64*.
-struct Chance(u64);
-
-impl Chance {
-    fn new(seed: u64) -> Chance {
-        let mut chance = Chance(seed.wrapping_mul(0x9e37_79b9_7f4a_7c15) | 1);
-        for _ in 0..8 {
-            chance.next();
-        }
-        chance
-    }
-
-    fn next(&mut self) -> u64 {
-        self.0 ^= self.0 >> 12;
-        self.0 ^= self.0 << 25;
-        self.0 ^= self.0 >> 27;
-        self.0.wrapping_mul(0x2545_f491_4f6c_dd1d)
-    }
-
-    fn below(&mut self, count: usize) -> usize {
-        ((self.next() >> 32) as usize * count) >> 32
-    }
-
-    fn of<'a, T: ?Sized>(&mut self, all: &[&'a T]) -> &'a T {
-        all[self.below(all.len())]
-    }
-}
-
 /// A line that is changed, and what is used again for each.
 struct Maker<'a> {
     chance: Chance,
@@ -82,7 +57,7 @@ struct Maker<'a> {
 impl<'a> Maker<'a> {
     fn new(seed: u64, text: &'a [u8]) -> Maker<'a> {
         let lines = text.split(|byte| *byte == b'\n').collect();
-        Maker { chance: Chance::new(seed), lines, line: Vec::new(), ends: Vec::new(), field: Vec::new() }
+        Maker { chance: Chance::new(seed, 8), lines, line: Vec::new(), ends: Vec::new(), field: Vec::new() }
     }
 
     /// Replaces a part of the line.
@@ -119,11 +94,11 @@ impl<'a> Maker<'a> {
             1 => self.put_field((from, to), (from, from), b":"),
             2 => self.put_field((next, past), (from, to), b""),
             3 | 4 => {
-                let number = self.chance.of(&NUMBERS);
+                let number = self.chance.one(&NUMBERS);
                 self.put(from, to, number);
             }
             5 => {
-                let piece = self.chance.of(&PIECES);
+                let piece = self.chance.one(&PIECES);
                 self.put(to, to, piece);
             }
             _ => self.line.truncate(to),
@@ -147,11 +122,11 @@ impl<'a> Maker<'a> {
             0 if at < self.line.len() => self.line[at] ^= 1 << self.chance.below(8),
             1 if at < self.line.len() => drop(self.line.remove(at)),
             2 => {
-                let piece = self.chance.of(&PIECES);
+                let piece = self.chance.one(&PIECES);
                 self.put(at, at, piece);
             }
             3 => {
-                let piece = self.chance.of(&PIECES);
+                let piece = self.chance.one(&PIECES);
                 self.put(0, 0, piece);
             }
             _ => {
@@ -186,7 +161,7 @@ impl<'a> Maker<'a> {
             }
         }
         text.extend_from_slice(&self.line);
-        text.extend_from_slice(self.chance.of(&ENDS));
+        text.extend_from_slice(self.chance.one(&ENDS));
     }
 }
 

@@ -2,22 +2,24 @@
 //! million, each run by the program too. See `lists.py`.
 //!
 //! It was written from docs/FORMATS.md, docs/PLAYING.md and tests/props/reference.py; lines are read by
-//! bench/plain_show.rs.
+//! bench/plain_show.rs, and plays judged by bench/plain_rules.rs.
 //! `plain_replay compare PROGRAM replay|loop|many SEED COUNT FOLDER` makes COUNT scripts, and gives each to PROGRAM; it
 //! prints how often each kind of line is in the logs, or, with status 1, the first script of which PROGRAM prints
 //! something else. With `many` PROGRAM gets all of them in one process. Files are written in FOLDER.
 //! `plain_replay make SEED AT` prints the script of this place, `plain_replay play < SCRIPT` what is printed for it.
 //! Built by `rustc -O`.
 
-#[path = "plain_rules.rs"]
+mod chance;
+mod plain_boards;
+#[path = "../plain_rules.rs"]
+#[allow(dead_code)]
 mod plain_rules;
-#[path = "plain_scripts.rs"]
 mod plain_scripts;
 #[path = "../plain_show.rs"]
 #[allow(dead_code)]
 mod plain_show;
 
-use plain_rules::{command, push_number, read_decision, renumbered, Board, Decision, Phase};
+use plain_boards::{command, push_number, read_decision, renumbered, Board, Decision, Phase};
 use plain_show::{check_message, decimal, is_name, numbered, Lines};
 use std::collections::BTreeMap;
 use std::env;

@@ -3,7 +3,9 @@
 //! They are made as those of tests/fuzz.py are; the same seed and place make the same script. Two in three begin with the
 //! seven events after which a client can click. As many come then as one of COUNTS says, and 200 in one of forty.
 
-use super::plain_rules::{command, push_number, Decision, Phase, BAR};
+use super::chance::Chance;
+use super::plain_boards::{command, push_number, Decision, Phase};
+use super::plain_rules::BAR;
 use super::{read_event, read_script, Model};
 
 const COUNTS: [usize; 8] = [2, 5, 8, 12, 16, 24, 40, 80];
@@ -144,43 +146,9 @@ const PIECES: [&[u8]; 18] = [
     b"login: ", b" ", b":", b"\xff\xfa\x18\x01\xff\xf0", b"\xff\r", b"\0", b"\x7f", b"\\", b"-",
 ];
 
-/// Numbers that look like chance (xorshift64*).
-struct Chance(u64);
-
-impl Chance {
-    fn new(seed: u64, at: u64) -> Chance {
-        let both = seed ^ at.wrapping_mul(0xd6e8_feb8_6659_fd93);
-        let mut chance = Chance(both.wrapping_mul(0x9e37_79b9_7f4a_7c15) | 1);
-        for _ in 0..12 {
-            chance.next();
-        }
-        chance
-    }
-
-    fn next(&mut self) -> u64 {
-        self.0 ^= self.0 >> 12;
-        self.0 ^= self.0 << 25;
-        self.0 ^= self.0 >> 27;
-        self.0.wrapping_mul(0x2545_f491_4f6c_dd1d)
-    }
-
-    fn below(&mut self, count: usize) -> usize {
-        ((self.next() >> 32) as usize * count) >> 32
-    }
-
-    /// A number of a range, its ends included.
-    fn of(&mut self, least: i32, most: i32) -> i32 {
-        least + self.below((most - least + 1) as usize) as i32
-    }
-
-    /// Happens so many times in a thousand.
-    fn happens(&mut self, times: usize) -> bool {
-        self.below(1000) < times
-    }
-
-    fn one<T: Copy>(&mut self, all: &[T]) -> T {
-        all[self.below(all.len())]
-    }
+/// What a script is made by.
+fn chance_of(seed: u64, at: u64) -> Chance {
+    Chance::new(seed ^ at.wrapping_mul(0xd6e8_feb8_6659_fd93), 12)
 }
 
 /// So many checkers on some of these places, at most so many of which are used.
@@ -524,7 +492,7 @@ fn events(chance: &mut Chance, model: &mut Model) -> Vec<Vec<u8>> {
 
 /// The script of this seed and place.
 pub fn script(seed: u64, at: u64) -> Vec<u8> {
-    let chance = &mut Chance::new(seed, at);
+    let chance = &mut chance_of(seed, at);
     let mut first = good_board(chance, false).into_bytes();
     if chance.happens(30) {
         first = changed(chance, first);

@@ -1,31 +1,9 @@
-//! Boards, the rules of backgammon, and decisions, for `plain_replay.rs`.
+//! Boards and decisions, for `plain_replay.rs`.
 
+use super::plain_rules::{numbers_of, Checkers, Play, BAR, OFF};
 use super::plain_show::{check_board, decimal, without_trailing_spaces};
 
-/// The places of the bar and of the checkers borne off, in own numbers.
-pub const BAR: usize = 25;
-pub const OFF: usize = 0;
-
 pub const LARGEST_CUBE: i32 = 1_048_576;
-
-/// Up to four steps, each from a place to a place.
-#[derive(Clone, Copy, Default, PartialEq, Eq)]
-pub struct Play {
-    pub all: [(u8, u8); 4],
-    pub count: usize,
-}
-
-impl Play {
-    pub fn steps(&self) -> &[(u8, u8)] {
-        &self.all[..self.count]
-    }
-
-    pub fn and(mut self, source: usize, target: usize) -> Play {
-        self.all[self.count] = (source as u8, target as u8);
-        self.count += 1;
-        self
-    }
-}
 
 /// Prints a number behind a line.
 pub fn push_number(line: &mut Vec<u8>, number: i32) {
@@ -78,83 +56,6 @@ impl Phase {
     }
 }
 
-/// The checkers of both sides by own numbers: the player goes from 24 down to 1.
-#[derive(Clone, Copy)]
-pub struct Checkers {
-    pub own: [i32; 26],
-    pub other: [i32; 26],
-}
-
-impl Checkers {
-    /// The place that a checker of `source` reaches with a die, if it may go.
-    pub fn target(&self, source: usize, die: usize) -> Option<usize> {
-        let own = &self.own;
-        if own[source] == 0 || (own[BAR] > 0 && source != BAR) {
-            return None;
-        }
-        if source > die {
-            return if self.other[source - die] < 2 { Some(source - die) } else { None };
-        }
-        if own[7..].iter().any(|count| *count > 0) {
-            return None;
-        }
-        // with a die that is larger than needed only the hindmost checker is borne off
-        let is_hindmost = own[source + 1..].iter().all(|count| *count == 0);
-        if source == die || is_hindmost {
-            Some(OFF)
-        } else {
-            None
-        }
-    }
-
-    pub fn after(&self, source: usize, target: usize) -> Checkers {
-        let mut next = *self;
-        next.own[source] -= 1;
-        next.own[target] += 1;
-        if target != OFF {
-            next.other[target] = 0;
-        }
-        next
-    }
-
-    /// Calls with each run of steps by some of the dice, in any order, and with the die of its first step.
-    pub fn runs(&self, dice: &[usize], play: Play, first: usize, found: &mut impl FnMut(&Play, usize)) {
-        found(&play, first);
-        for (at, die) in dice.iter().enumerate() {
-            if dice[..at].contains(die) {
-                continue;
-            }
-            let mut rest = dice.to_vec();
-            rest.remove(at);
-            for source in 1..=BAR {
-                if let Some(target) = self.target(source, *die) {
-                    let first = if play.count == 0 { *die } else { first };
-                    self.after(source, target).runs(&rest, play.and(source, target), first, found);
-                }
-            }
-        }
-    }
-
-    /// The plays that use the dice most fully; if only one of two can be used, the larger if it can be.
-    pub fn legal_plays(&self, dice: &[usize]) -> Vec<Play> {
-        let (mut most, mut found) = (0, Vec::new());
-        self.runs(dice, Play::default(), 0, &mut |play, first| {
-            if play.count > most {
-                most = play.count;
-                found.clear();
-            }
-            if play.count == most {
-                found.push((*play, first));
-            }
-        });
-        if most == 1 && dice.len() == 2 {
-            let larger = found.iter().map(|(_, die)| *die).max();
-            found.retain(|(_, die)| Some(*die) == larger);
-        }
-        found.into_iter().map(|(play, _)| play).collect()
-    }
-}
-
 /// A board that was read. Its fields are counted from 1, as in the page; those of names are 0.
 #[derive(Clone, PartialEq, Eq)]
 pub struct Board {
@@ -198,34 +99,30 @@ impl Board {
         }
     }
 
-    pub fn side(&self, colour: i32) -> [i32; 26] {
+    pub fn side(&self, colour: i32) -> [u8; 26] {
         let mut counts = [0; 26];
         for place in 1..25 {
-            counts[self.number(place)] = (colour * self.fields[7 + place]).max(0);
+            counts[self.number(place)] = (colour * self.fields[7 + place]).max(0) as u8;
         }
         counts
     }
 
+    /// The checkers of a good board: those that are nowhere else are on the bar.
     pub fn checkers(&self) -> Checkers {
         let (mut own, other) = (self.side(self.fields[42]), self.side(-self.fields[42]));
-        own[OFF] = self.fields[46];
-        own[BAR] = 15 - own.iter().sum::<i32>();
+        own[OFF] = self.fields[46] as u8;
+        own[BAR] = 15 - own.iter().sum::<u8>();
         Checkers { own, other }
     }
 
     pub fn is_good(&self) -> bool {
-        let on = |colour: i32| self.side(colour).iter().sum::<i32>();
+        let on = |colour: i32| self.side(colour).iter().map(|count| i32::from(*count)).sum::<i32>();
         let colour = self.fields[42];
         self.player == b"You" && on(colour) + self.fields[46] <= 15 && on(-colour) + self.fields[47] <= 15
     }
 
     pub fn dice(&self) -> Vec<usize> {
-        let shown: Vec<usize> = self.fields[34..36].iter().filter(|die| **die > 0).map(|die| *die as usize).collect();
-        if shown.len() == 2 && shown[0] == shown[1] {
-            vec![shown[0]; 4]
-        } else {
-            shown
-        }
+        numbers_of([self.fields[34], self.fields[35]])
     }
 
     pub fn phase(&self) -> Phase {
@@ -243,8 +140,7 @@ impl Board {
         if dice.is_empty() {
             return Phase::RollOrDouble;
         }
-        let can_go = |die: &usize| (1..=BAR).any(|source| checkers.target(source, *die).is_some());
-        if dice.iter().any(can_go) {
+        if dice.iter().any(|die| checkers.can_go(*die)) {
             Phase::Move
         } else {
             Phase::Passing
@@ -291,12 +187,13 @@ impl Board {
         }
         let (mut after, colour) = (self.clone(), self.fields[42]);
         for place in 1..25 {
-            after.fields[7 + self.number(place)] = colour * (checkers.own[place] - checkers.other[place]);
+            let count = i32::from(checkers.own[place]) - i32::from(checkers.other[place]);
+            after.fields[7 + self.number(place)] = colour * count;
         }
         // the fields of the bars stay as they were: who is on the bar follows from the other places
         after.fields[33] = if checkers.own[OFF] == 15 { 0 } else { -colour };
         after.fields[34..36].copy_from_slice(&[0, 0]);
-        after.fields[46] = checkers.own[OFF];
+        after.fields[46] = i32::from(checkers.own[OFF]);
         after
     }
 }
