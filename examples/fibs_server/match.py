@@ -74,13 +74,17 @@ class Match:
                  for end in step]
         return '-'.join(words)
 
+    def numbers(self):
+        """What the dice give to play."""
+        return rules.numbers_of(self.dice)
+
     def plays(self):
         """The legal plays of the side whose turn it is."""
-        return rules.plays(self.seen_by(self.turn), self.dice)
+        return rules.plays(self.seen_by(self.turn), self.numbers())
 
     def movable(self):
         """How many checkers the side whose turn it is has to move."""
-        return rules.movable(self.seen_by(self.turn), self.dice)
+        return rules.most(self.seen_by(self.turn), self.numbers())
 
     # -- turns -------------------------------------------------------------------------------------------------------
 
@@ -107,7 +111,7 @@ class Match:
 
     def moves(self, steps):
         """Carries a play out. True if it ends the game."""
-        end = rules.reached(self.seen_by(self.turn), self.dice, steps)
+        end = rules.reached(self.seen_by(self.turn), self.numbers(), steps)
         if end is None:
             raise Against(self.reason(steps))
         self.position[self.turn], self.position[1 - self.turn] = end
@@ -121,9 +125,8 @@ class Match:
             return '** You have to remove pieces from the bar in your first move.'
         if len(steps) != needed:
             return '** You must give %d move%s.' % (needed, '' if needed == 1 else 's')
-        numbers = rules.numbers_of(self.dice)
         for at, step in enumerate(steps):
-            if not list(rules.walks(position, tuple(steps[:at + 1]), numbers)):
+            if rules.walked(position, tuple(steps[:at + 1]), self.numbers()) is None:
                 return "** You can't move %s." % self.spelled(self.turn, step)
         return '** You have to play the larger number.'
 

@@ -1,4 +1,8 @@
-"""The rules of backgammon. Each side counts its own way: it enters from 25, goes down, and bears off at 0."""
+"""The rules of backgammon. Each side counts its own way: it enters from 25, goes down, and bears off at 0.
+
+They were written from the rules, and from nothing that is proved. The tests compare the proved program with them: they
+are those of tests/props/reference.py too.
+"""
 
 import functools
 
@@ -21,19 +25,15 @@ def mirrored(place):
     return 25 - place
 
 
-def turned(position):
-    """The same position, with the other side first."""
-    return position[1], position[0]
-
-
 def pips(side):
     """How far a side has to go."""
     return sum(place * count for place, count in enumerate(side))
 
 
 def numbers_of(dice):
-    """What a pair of dice gives to play: a double is played four times."""
-    return tuple(dice) * 2 if dice[0] == dice[1] else tuple(dice)
+    """What two dice give to play: a double is played four times. One that is 0 is none."""
+    numbers = tuple(die for die in dice if die)
+    return numbers * 2 if len(set(numbers)) < len(numbers) else numbers
 
 
 def target_of(position, source, die):
@@ -87,60 +87,69 @@ def most(position, numbers):
     return best
 
 
-def walks(position, steps, numbers):
-    """Each way to play these steps with the numbers: the position it ends in, and the numbers that are left."""
+def to_play(position, numbers):
+    """The numbers of which a legal play uses as many as can be played: if of two one alone can be played, it is the
+    larger one, if that can be."""
+    if len(numbers) < 2 or most(position, numbers) > 1:
+        return numbers
+    larger = max(numbers),
+    return larger if most(position, larger) else (min(numbers),)
+
+
+def walked(position, steps, numbers):
+    """The position after these steps, each by one of the numbers; None if they can't be played."""
     if not steps:
-        yield position, numbers
-        return
-    source, target = steps[0]
-    for first, reached, left in steps_of(position, numbers):
-        if (first, reached) == (source, target):
-            yield from walks(after_step(position, source, target), steps[1:], left)
-
-
-def plays_the_larger(position, dice, left):
-    """If one number alone can be played, it has to be the larger one, if that can be."""
-    larger = max(dice)
-    can = any(target_of(position, source, larger) is not None for source in range(BAR, OFF, -1))
-    return not can or larger not in left
-
-
-def reached(position, dice, steps):
-    """The position after a legal play, or None if the play is not legal."""
-    numbers = numbers_of(dice)
-    needed = most(position, numbers)
-    if len(steps) != needed:
-        return None
-    for end, left in walks(position, tuple(steps), numbers):
-        if not (needed == 1 and dice[0] != dice[1]) or plays_the_larger(position, dice, left):
-            return end
+        return position
+    for source, target, left in steps_of(position, numbers):
+        if (source, target) == steps[0]:
+            end = walked(after_step(position, source, target), steps[1:], left)
+            if end is not None:
+                return end
     return None
 
 
-def plays(position, dice):
-    """The legal plays, one for each position that they lead to, in descending order. None can be: no play."""
-    found = {}
-    needed = most(position, numbers_of(dice))
-    if needed:
-        gather(position, numbers_of(dice), needed, (), found)
-    legal = [steps for steps in found.values() if reached(position, dice, steps) is not None]
-    return sorted(legal, reverse=True)
+def reached(position, numbers, steps):
+    """The position after a legal play, or None if the play is not legal."""
+    numbers = to_play(position, numbers)
+    return walked(position, tuple(steps), numbers) if len(steps) == most(position, numbers) else None
 
 
-def gather(position, numbers, needed, steps, found):
-    """Adds the greatest play of `needed` steps for each position that such plays lead to."""
-    if needed == 0:
-        # with one number to play, the same position may be reached by the smaller and by the larger
-        found[position] = max(steps, found.get(position, ()))
-        return
+def first_steps(position, numbers):
+    """The steps with which a play begins that uses as many of the numbers as can be played: each with the position
+    after it, and the numbers that are left."""
+    needed = most(position, numbers)
     for source, target, left in steps_of(position, numbers):
-        if most(after := after_step(position, source, target), left) >= needed - 1:
-            gather(after, left, needed - 1, steps + ((source, target),), found)
+        after = after_step(position, source, target)
+        if most(after, left) == needed - 1:
+            yield (source, target), after, left
 
 
-def movable(position, dice):
-    """How many checkers have to be moved."""
-    return most(position, numbers_of(dice))
+@functools.lru_cache(maxsize=2000)
+def each_order(position, numbers):
+    """Each way to play as many of the numbers as can be played."""
+    found = {(step,) + rest for step, after, left in first_steps(position, numbers) for rest in each_order(after, left)}
+    return frozenset(found or {()})
+
+
+@functools.lru_cache(maxsize=5000)
+def greatest(position, numbers):
+    """The greatest of these ways for each position that they lead to."""
+    found = {}
+    for step, after, left in first_steps(position, numbers):
+        for end, rest in greatest(after, left).items():
+            found[end] = max((step,) + rest, found.get(end, ()))
+    return found or {position: ()}
+
+
+def legal_plays(position, numbers):
+    """The legal plays, in each order of their steps. If no checker may go, it is the play of no step."""
+    return each_order(position, to_play(position, numbers))
+
+
+def plays(position, numbers):
+    """The legal plays, one for each position that they lead to, in descending order. None can be: no play."""
+    found = greatest(position, to_play(position, numbers)).values()
+    return sorted(filter(None, found), reverse=True)
 
 
 def is_over(position):

@@ -1,11 +1,17 @@
-"""A slow reference of the program, but for `fibs connect`, written from docs/FORMATS.md and docs/PLAYING.md alone.
+"""A slow reference of the program, but for `fibs connect`, written from docs/FORMATS.md and docs/PLAYING.md alone. The
+rules of backgammon are those by which the server of the examples plays, which were written from no proved code either.
 
 `reference.py show`, `reference.py plays`, `reference.py replay` and `reference.py loop` read standard input, where
 `plays` has its LINE, and print what the program prints.
 """
-import functools
+import pathlib
 import re
 import sys
+
+sys.path.insert(0, str(pathlib.Path(__file__).resolve().parents[2] / 'examples' / 'fibs_server'))
+import rules
+sys.path.pop(0)
+from rules import BAR, OFF, after_step, legal_plays, most, numbers_of, target_of, plays as greatest_plays
 
 # ---- From bytes to lines ------------------------------------------------------------------------------------------
 
@@ -158,9 +164,9 @@ def show(stream):
         out.append(b'unfinished %d' % unfinished)
     return b''.join(line + b'\n' for line in out), 0
 
-# ---- The rules of backgammon, in own numbers: the player goes from 24 down to 1 ------------------------------------
+# ---- Boards, in own numbers: each side goes from 24 down to 1 ------------------------------------------------------
 
-BAR, OFF, LARGEST_CUBE = 25, 0, 1048576
+LARGEST_CUBE = 1048576
 
 class Board:
     """A board that was read. Its fields are counted from 1, as in the document."""
@@ -181,10 +187,11 @@ class Board:
         return counts
 
     def position(self):
-        own, other = self.checkers(self.fields[42]), self.checkers(-self.fields[42])
-        own[OFF] = self.fields[46]
+        """The checkers of both sides, each by its own numbers."""
+        own, other = self.checkers(self.fields[42]), self.checkers(-self.fields[42])[::-1]
+        own[OFF], other[OFF] = self.fields[46:48]
         # The checkers that are nowhere else are on the bar.
-        own[BAR] = 15 - sum(own)
+        own[BAR], other[BAR] = 15 - sum(own), 15 - sum(other)
         return tuple(own), tuple(other)
 
     def fault(self):
@@ -201,8 +208,7 @@ class Board:
 
     def dice(self):
         """The dice still to play: a double is played four times; there may be one die alone."""
-        dice = tuple(die for die in self.fields[34:36] if die)
-        return dice * 2 if len(set(dice)) < len(dice) else dice
+        return numbers_of(self.fields[34:36])
 
     def phase(self):
         fields = self.fields
@@ -214,9 +220,7 @@ class Board:
             return 'OpponentActs'
         if not fields[34] and not fields[35]:
             return 'RollOrDouble'
-        position = self.position()
-        ways = [target_of(position, source, die) for die in set(self.dice()) for source in range(1, 26)]
-        return 'Passing' if set(ways) <= {None} else 'Move'
+        return 'Move' if any(rules.steps_of(self.position(), self.dice())) else 'Passing'
 
     def cube_allows(self, decision):
         """A cube goes up to 1,048,576, so a higher one can neither be offered nor taken."""
@@ -230,79 +234,7 @@ class Board:
             fields[field - 1] = value
         return Board(b':'.join(value if isinstance(value, bytes) else b'%d' % value for value in fields))
 
-def target_of(position, source, die):
-    """The place that a checker of `source` reaches with a die, or None if it may not go."""
-    own, other = position
-    if not own[source] or (own[BAR] and source != BAR):
-        return None
-    target = source - die
-    if target > 0:
-        return target if other[target] < 2 else None
-    if any(own[7:]):
-        return None
-    # With a die that is larger than needed only the hindmost checker is borne off.
-    return OFF if target == 0 or not any(own[source + 1:]) else None
-
-def after_step(position, source, target):
-    own, other = list(position[0]), list(position[1])
-    own[source] -= 1
-    own[target] += 1
-    if target != OFF:
-        other[target] = 0
-    return tuple(own), tuple(other)
-
-@functools.lru_cache(maxsize=2000)
-def sequences(position, dice):
-    """Every sequence of steps with some of the dice, each in any order, as (steps, dice used)."""
-    found = {((), ())}
-    for die in set(dice):
-        left = list(dice)
-        left.remove(die)
-        for source in range(1, 26):
-            target = target_of(position, source, die)
-            if target is not None:
-                rest = sequences(after_step(position, source, target), tuple(left))
-                found |= {(((source, target),) + steps, (die,) + used) for steps, used in rest}
-    return frozenset(found)
-
-@functools.lru_cache(maxsize=100)
-def legal_plays(position, dice):
-    """The step sequences that use the dice most fully; if only one of two dice can be used, the larger if it can be."""
-    found = sequences(position, dice)
-    fullest = max(len(steps) for steps, _ in found)
-    found = {(steps, used) for steps, used in found if len(steps) == fullest}
-    if fullest == 1 and len(dice) == 2:
-        larger = max(used for _, used in found)
-        found = {(steps, used) for steps, used in found if used == larger}
-    return {steps for steps, _ in found}
-
 # ---- What `fibs plays` prints -------------------------------------------------------------------------------------
-
-@functools.lru_cache(maxsize=5000)
-def fullest(position, dice):
-    """How many of the dice can be used at most; for each arrangement that is so reached the greatest such sequence."""
-    most, greatest = 0, {position: ()}
-    for die in set(dice):
-        left = list(dice)
-        left.remove(die)
-        for source in range(1, 26):
-            target = target_of(position, source, die)
-            if target is None:
-                continue
-            count, rest = fullest(after_step(position, source, target), tuple(left))
-            if count + 1 > most:
-                most, greatest = count + 1, {}
-            for reached, steps in rest.items() if count + 1 == most else ():
-                greatest[reached] = max(((source, target),) + steps, greatest.get(reached, ()))
-    return most, greatest
-
-def greatest_plays(position, dice):
-    """For each arrangement that a legal play reaches the greatest such play, in descending order."""
-    most, greatest = fullest(position, dice)
-    if most == 1 and len(dice) == 2:
-        of_larger, larger = fullest(position, (max(dice),))
-        greatest = larger if of_larger else greatest
-    return sorted(greatest.values(), reverse=True)
 
 OBJECT = re.compile(rb'\{"kind":"board","line":"([ !#-\[\]-~]*)".*\}', re.S)
 
@@ -468,7 +400,7 @@ class Client:
             return 'NotYours'
         if not decides(phase, decision) or not self.board.cube_allows(decision):
             return 'WrongKind'
-        if isinstance(decision, tuple) and decision not in legal_plays(self.board.position(), self.board.dice()):
+        if isinstance(decision, tuple) and rules.reached(self.board.position(), self.board.dice(), decision) is None:
             return 'IllegalPlay'
         return None
 
@@ -647,7 +579,7 @@ def moved(board, steps):
     colour, after = board.fields[42], board.position()
     for source, target in steps:
         after = after_step(after, source, target)
-    changes = {7 + board.number(n): colour * (after[0][n] - after[1][n]) for n in range(1, 25)}
+    changes = {7 + board.number(n): colour * (after[0][n] - after[1][rules.mirrored(n)]) for n in range(1, 25)}
     # The fields of the bars stay as they were: who is on the bar follows from the other places.
     changes.update({33: 0 if after[0][OFF] == 15 else -colour, 34: 0, 35: 0, 46: after[0][OFF]})
     return board.with_fields(changes)

@@ -178,15 +178,14 @@ class Gambler(Client):
         board = reference.Board(reference.read_board(line.encode()))
         same('the board is one with a position', board.fault(), None)
         fields, position = board.fields, board.position()
-        others_bar = 15 - sum(position[1]) - fields[47]
-        same('the checkers on the bar', (fields[48], fields[49]), (position[0][25], others_bar))
+        same('the checkers on the bar', (fields[48], fields[49]), (position[0][25], position[1][25]))
         bars = fields[32 if fields[43] == -1 else 7], fields[7 if fields[43] == -1 else 32]
         same('the bars as places', bars, (fields[42] * fields[48], -fields[42] * fields[49]))
         if board.phase() in ('Move', 'Passing'):
-            can_move = reference.fullest(position, board.dice())[0]
+            can_move = reference.most(position, board.dice())
             same('how many can be moved', fields[50], can_move)
         if self.expected and fields[33] != fields[42]:
-            same('the board after his own play', (position[0], position[1]), self.expected)
+            same('the board after his own play', position, self.expected)
             self.expected = None
         if fields[33] == 0:
             self.end_game(board)

@@ -10,15 +10,11 @@ from clients import PATIENCE, Client, Failed, Gambler, Served, play, same
 
 def worth_of(board, winner):
     """What a game is worth that was borne off: 1, a gammon 2, a backgammon 3."""
-    off = board.fields[46], board.fields[47]
-    loser = 1 - winner
-    if off[loser]:
+    loser = board.position()[1 - winner]
+    if loser[0]:
         return 1
-    own, other = board.position()
-    on_bar = own[25] if loser == 0 else 15 - sum(other) - off[1]
-    # in the numbers of the player: the winner's home are 1 to 6 if the player wins, else 19 to 24
-    left = sum(other[1:7]) if loser == 1 else sum(own[19:25])
-    return 3 if left or on_bar else 2
+    # the winner's home are the places 19 to 24 of the loser, and 25 is the bar
+    return 3 if sum(loser[19:]) else 2
 
 
 def check_games(client, length):

@@ -1,14 +1,10 @@
-"""The rules of the server beside those of tests/props/reference.py, on random positions."""
+"""The rules of the server beside what they say in fewer words: all runs of steps, of which the longest are legal."""
 
-import importlib.util
 import random
 
-from clients import ROOT, Failed, reference, same
+from clients import Failed, reference, same
 
-SPEC = importlib.util.spec_from_file_location('rules', ROOT / 'examples' / 'fibs_server' / 'rules.py')
-rules = importlib.util.module_from_spec(SPEC)
-SPEC.loader.exec_module(rules)
-
+rules = reference.rules
 POSITIONS = 1500
 
 
@@ -26,28 +22,35 @@ def position_by_chance(chance):
     return tuple(own), tuple(other)
 
 
-def as_reference(position):
-    """The same with the other side by the first one's numbers, on the board alone."""
-    own, other = position
-    return own, tuple([0, *(other[25 - place] for place in range(1, 25)), 0])
+def runs(position, numbers):
+    """Each run of steps by some of the numbers."""
+    yield ()
+    for source, target, left in rules.steps_of(position, numbers):
+        for steps in runs(rules.after_step(position, source, target), left):
+            yield ((source, target),) + steps
 
 
-def legal_plays_are_those_of_the_reference():
+def legal_plays_are_the_longest_runs():
     chance, larger = random.Random(8), 0
     for _ in range(POSITIONS):
-        position = position_by_chance(chance)
-        dice = chance.randint(1, 6), chance.randint(1, 6)
-        numbers = dice * 2 if dice[0] == dice[1] else dice
-        wanted = reference.legal_plays(as_reference(position), numbers)
-        tried = {steps for steps, _ in reference.sequences(as_reference(position), numbers)}
-        legal = {steps for steps in tried if rules.reached(position, dice, steps) is not None}
-        same('the plays of %s with %s' % (position, dice), legal, wanted)
-        ends = {rules.reached(position, dice, steps) for steps in wanted if steps}
-        listed = {rules.reached(position, dice, steps) for steps in rules.plays(position, dice)}
-        same('the ends of the plays of %s with %s' % (position, dice), listed, ends)
-        larger += tried != wanted and max(map(len, wanted)) == 1 == max(map(len, tried))
+        position, dice = position_by_chance(chance), (chance.randint(1, 6), chance.randint(1, 6))
+        numbers, case = rules.numbers_of(dice), '%s with %s' % (position, dice)
+        tried = set(runs(position, numbers))
+        longest = max(map(len, tried))
+        wanted = {steps for steps in tried if len(steps) == longest}
+        if longest == 1 and dice[0] != dice[1]:
+            by_larger = {((source, target),) for (source, target), in wanted
+                         if rules.target_of(position, source, max(dice)) == target}
+            larger += by_larger not in (set(), wanted)
+            wanted = by_larger or wanted
+        same('the plays of ' + case, set(rules.legal_plays(position, numbers)), wanted)
+        same('what is played of ' + case, {steps for steps in tried if rules.reached(position, numbers, steps)}, wanted)
+        ends = {rules.reached(position, numbers, steps) for steps in wanted if steps}
+        listed = [rules.reached(position, numbers, steps) for steps in rules.plays(position, numbers)]
+        same('the ends of the plays of ' + case, sorted(listed), sorted(ends))
+        same('how many can be moved of ' + case, rules.most(position, numbers), longest)
     if larger == 0:
         raise Failed('no position was tried in which the larger number has to be played')
 
 
-TESTS = [legal_plays_are_those_of_the_reference]
+TESTS = [legal_plays_are_the_longest_runs]

@@ -90,7 +90,7 @@ class Listener:
         self.ann.type(self.typed[-1])
 
     def moves(self, dice):
-        plays = rules.plays((self.position.own, self.position.other), dice)
+        plays = rules.plays((self.position.own, self.position.other), rules.numbers_of(dice))
         if not plays:
             # the server passes for her
             return

@@ -107,7 +107,7 @@ class Moment:
             source, _, target = step.partition('-')
             steps.append((rules.BAR if source == 'bar' else match.place(side, int(source)),
                           rules.OFF if target == 'off' else match.place(side, int(target))))
-        return rules.reached(match.seen_by(side), match.dice, steps) is not None
+        return rules.reached(match.seen_by(side), match.numbers(), steps) is not None
 
     def way_on(self, name):
         """A line that the server takes, if it waits for the player."""
