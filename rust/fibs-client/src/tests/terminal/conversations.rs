@@ -1,7 +1,9 @@
 //! Conversations, and what a terminal shows of them.
 
 use super::lines::{MOVED, POINT_MADE, SETTINGS, TO_MOVE, TO_ROLL, WELCOME, to_roll_picture};
-use super::seats::{Scene, Step, assert_has, assert_scenes, assert_shows, colour_settings, plain_settings, shown};
+use super::seats::{
+    Scene, Step, assert_has, assert_scenes, assert_shows, assert_wanted, colour_settings, plain_settings, shown,
+};
 use crate::fibs_wording::environment::Settings;
 
 /// What a turn shows after the first messages: one picture, and a row for each other thing.
@@ -49,7 +51,7 @@ fn a_turn_shows_one_picture() {
 }
 
 /// Connections that come and go, and the last rows that are shown then.
-static CONNECTIONS: [Scene; 5] = [
+static CONNECTIONS: [Scene; 7] = [
     (
         &[Step::Loses, Step::Opens, Step::Hears(b"\r\n"), Step::Hears(b"login: "), Step::Rests, Step::Rests],
         "connected to fibs.com:4321\nNot logged in: wrong name or password? quit, and begin again.\n",
@@ -70,6 +72,20 @@ static CONNECTIONS: [Scene; 5] = [
         "connected to fibs.com:4321\ncarol logs in.\n",
     ),
     (
+        &[
+            Step::Loses,
+            Step::Opens,
+            Step::Hears(b"login: "),
+            Step::Rests,
+            Step::Rests,
+            Step::Hears(b"7 carol carol logs in.\r\n"),
+            Step::Rests,
+            Step::Rests,
+        ],
+        "Not logged in: wrong name or password? quit, and begin again.\ncarol logs in.\n",
+    ),
+    (&[Step::Loses, Step::Types(b"roll")], "ends\nThere is no connection: type open. [2 Offline]\n"),
+    (
         &[Step::Types(b"roll"), Step::Loses],
         "roll may have reached the server or not\nlost: open connects again, quit ends\n",
     ),
@@ -79,6 +95,23 @@ static CONNECTIONS: [Scene; 5] = [
 #[test]
 fn connections_come_and_go() {
     assert_scenes(plain_settings(), &CONNECTIONS);
+}
+
+/// Boards that follow each other, each of another game: each is drawn whole, with its hint.
+#[test]
+fn each_of_many_boards_is_drawn() {
+    let board = String::from_utf8(TO_MOVE.to_vec()).expect("it is a text");
+    let boards: Vec<String> = (0..20).map(|number| board.replace(":bob:", &format!(":bob{number}:"))).collect();
+    let steps: Vec<Step<'_>> =
+        boards.iter().flat_map(|board| [Step::Hears(board.as_bytes()), Step::Rests]).collect();
+    let text = shown(plain_settings(), &[Step::Hears(WELCOME), Step::Hears(SETTINGS)], &steps);
+    let mut rows = text.lines().skip(4);
+    assert_wanted(rows.clone().count() == 20 * 15, &text, "20 pictures with their hints");
+    for number in 0..20 {
+        let drawn: Vec<&str> = rows.by_ref().take(15).collect();
+        let is_right = drawn[0].ends_with(&format!("   X bob{number}")) && drawn[14].starts_with("Your move, as in: ");
+        assert_wanted(is_right, &drawn.join("\n"), "a picture and its hint");
+    }
 }
 
 /// Lines that are typed, and the last rows that are shown then.

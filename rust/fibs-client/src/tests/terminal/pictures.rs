@@ -27,7 +27,7 @@ struct Picture {
     lines: [&'static [u8]; 14],
 }
 
-static PICTURES: [Picture; 4] = [
+static PICTURES: [Picture; 5] = [
     Picture {
         name: "O goes down, before his move",
         board: b"board:You:someplayer:3:0:1:0:-2:0:0:0:0:5:0:3:0:0:0:-5:5:0:0:0:-3:0:-5:0:0:0:0:2:0:1:6:2:0:0:1:1:1:0:1:-1:0:25:0:0:0:0:2:0:0:0",
@@ -106,6 +106,26 @@ static PICTURES: [Picture; 4] = [
             b" |                  | X |                  |     score 99999999",
             b" +13-14-15-16-17-18-+---+19-20-21-22-23-24-+   O You",
             b" The game is over.",
+        ],
+    },
+    Picture {
+        name: "fifteen of each side on one place, and the largest cube in the middle",
+        board: b"board:You:nnnnnnnnnnnnnnnnnnnnnnnnnnnnnnnnnnnnnnnnnnnnnnnnnnnnnnnnnnnn:9998:0:0:0:-15:0:0:0:0:0:0:0:0:0:0:0:0:0:0:0:0:0:0:0:0:0:0:15:0:1:0:0:0:0:1048576:1:1:0:1:-1:0:25:0:0:0:0:0:0:0:0",
+        lines: [
+            b" +13-14-15-16-17-18-+---+19-20-21-22-23-24-+   X nnnnnnnnnnnnnnnnnnnnnnnnnnnnnn",
+            b" |                  |   |                O |     score 0",
+            b" |                  |   |                O |     off   0",
+            b" |                  |   |                O |     pips  360",
+            b" |                  |   |                O |     dice  -",
+            b" |                  |   |               15 |   match to 9998",
+            b" |                  |BAR|                  |   cube 1048576, in the middle",
+            b" |                  |   |               15 |   your turn",
+            b" |                  |   |                X |     dice  -",
+            b" |                  |   |                X |     pips  360",
+            b" |                  |   |                X |     off   0",
+            b" |                  |   |                X |     score 0",
+            b" +12-11-10--9--8--7-+---+-6--5--4--3--2--1-+   O You",
+            b" You roll, or resign.",
         ],
     },
 ];
