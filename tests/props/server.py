@@ -5,17 +5,10 @@ the real server: who comes back finds the board as it is.
 """
 
 import random
-import socket
-import struct
 
-# How many seconds a test waits for a player.
-WAIT = 60
+from props.listener import OWN_INFO, WELCOME, Listener
 
 HEAD = ['board', 'You', 'bob', '1', '0', '0']
-
-WELCOME = '1 ann 1041253132 localhost'
-
-OWN_INFO = '2 %s 1 1 0 0 0 0 1 1 10 0 1 0 1 1500.00 0 0 0 0 0 UTC'
 
 WHO_INFO = [
     '5 ann bob - 1 0 1500.00 10 0 1041253132 localhost fibs_client -',
@@ -95,65 +88,8 @@ class Game:
         return ["** You can't do that now."]
 
 
-class Server:
-    """A listener on a port of its own, and the connection that was accepted last."""
-
-    def __init__(self, port=0, wait=WAIT):
-        self.wait = wait
-        self.listener = socket.socket()
-        self.listener.setsockopt(socket.SOL_SOCKET, socket.SO_REUSEADDR, 1)
-        self.listener.bind(('127.0.0.1', port))
-        self.listener.listen()
-        self.port = self.listener.getsockname()[1]
-        self.connection = None
-        self.unread = b''
-        self.received = []
-
-    def accept(self):
-        """Takes the next connection."""
-        self.listener.settimeout(self.wait)
-        self.connection, _ = self.listener.accept()
-        self.connection.settimeout(self.wait)
-        self.connection.setsockopt(socket.IPPROTO_TCP, socket.TCP_NODELAY, 1)
-        self.unread = b''
-
-    def line(self):
-        """The next line, without its CR LF; None at the end of the connection."""
-        while b'\r\n' not in self.unread:
-            piece = self.connection.recv(4096)
-            if not piece:
-                return None
-            self.unread += piece
-        line, self.unread = self.unread.split(b'\r\n', 1)
-        self.received.append(line.decode('latin-1'))
-        return self.received[-1]
-
-    def send(self, *lines):
-        """Sends lines, each with CR LF."""
-        self.send_bytes(b''.join(line.encode('latin-1') + b'\r\n' for line in lines))
-
-    def send_bytes(self, sent):
-        """Sends bytes: a part of a line, or what else comes to a test's mind."""
-        self.connection.sendall(sent)
-
-    def drop(self):
-        """Ends the connection."""
-        self.connection.close()
-
-    def reset(self):
-        """Ends the connection at once: nothing that is on its way has to arrive."""
-        self.connection.setsockopt(socket.SOL_SOCKET, socket.SO_LINGER, struct.pack('ii', 1, 0))
-        self.connection.close()
-
-    def end_sending(self):
-        """Sends nothing more, but still reads."""
-        self.connection.shutdown(socket.SHUT_WR)
-
-    def close(self):
-        """Ends the connection and stops to listen."""
-        if self.connection:
-            self.connection.close()
-        self.listener.close()
+class Server(Listener):
+    """A listener that greets who logs in, and plays."""
 
     def log_in(self):
         """Reads a login, and greets the player. None if no login comes."""
@@ -161,7 +97,7 @@ class Server:
         if words[:3] != ['login', 'fibs_client', '1008'] or len(words) != 5:
             return None
         name = words[3]
-        self.send('1 %s 1041253132 localhost' % name, OWN_INFO % name, '3', 'Welcome.', '4', *WHO_INFO, '6')
+        self.send(WELCOME.replace('ann', name), OWN_INFO % name, '3', 'Welcome.', '4', *WHO_INFO, '6')
         return name
 
     def serve(self, game, lines=None):
