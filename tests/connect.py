@@ -9,6 +9,7 @@ with a wide window. Prints a line for each case, and then `N passed, M failed`.
 import concurrent.futures
 import contextlib
 import os
+import pathlib
 import queue
 import signal
 import socket
@@ -340,24 +341,25 @@ def passwords_and_names_that_are_none(server):
     for name, typed, said in rows:
         same('the run of %r, %r' % (name[:9], typed[:9]), run(['127.0.0.1', str(server.port), name], typed),
              (3, '', said))
-    server.listener.setblocking(False)
-    try:
-        server.listener.accept()
-        raise Failed('a connection was made')
-    except BlockingIOError:
-        pass
+    server.is_alone()
 
 
 def the_longest_password(server):
-    """As it is typed, and from a file."""
-    longest = b'a' * 64 + b'\r\n'
-    with tempfile.NamedTemporaryFile() as file:
-        file.write(longest)
-        file.flush()
-        for words, typed in ([], longest), (['--password-file', file.name], b''):
-            same('the run', run([*words, '127.0.0.1', str(server.port), 'ann'], typed), (0, '', ''))
-            server.accept()
-            same('received', server.line(), 'login fibs_client 1008 ann ' + 'a' * 64)
+    """As it is typed, and as the first line of a file, with whatever line end, and of a pipe with a name."""
+    longest = b'a' * 64
+    with tempfile.TemporaryDirectory() as room:
+        path, pipe = os.path.join(room, 'password'), os.path.join(room, 'pipe')
+        os.mkfifo(pipe)
+        for held in longest, longest + b'\n', longest + b'\r\n', longest + b'\nroll\nsay hi\n':
+            pathlib.Path(path).write_bytes(held)
+            threading.Thread(target=pathlib.Path(pipe).write_bytes, args=(held,), daemon=True).start()
+            for words in ['--password-file', path], ['--password-file', pipe]:
+                same('the run', run([*words, '127.0.0.1', str(server.port), 'ann'], b''), (0, '', ''))
+                server.accept()
+                same('received', [server.line(), server.line()], ['login fibs_client 1008 ann ' + 'a' * 64, None])
+        same('the run', run(['127.0.0.1', str(server.port), 'ann'], longest + b'\r\n'), (0, '', ''))
+        server.accept()
+        same('received', server.line(), 'login fibs_client 1008 ann ' + 'a' * 64)
 
 
 # -- what a server sends ---------------------------------------------------------------------------------------------

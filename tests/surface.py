@@ -380,14 +380,6 @@ def the_picture_of_the_page_is_the_players(_program):
     same('in docs/PLAYING.md', drawn in text_of('docs/PLAYING.md'), True)
 
 
-def the_picture_of_the_readme_is_shown(_program):
-    """Each of its lines is on the screen of the game that tests/screens.py plays, in its order."""
-    shown = iter(text_of('tests/screens/game.txt').splitlines())
-    drawn = text_of('README.md').split('```')[1].splitlines()[1:]
-    same('its lines', len(drawn), 13)
-    same('lines that are not shown', [line for line in drawn if line not in shown], [])
-
-
 # -- files -----------------------------------------------------------------------------------------------------------
 
 def the_page_is_clean(_program):
@@ -459,8 +451,7 @@ CASES = [
     each_wrong_line_means_the_same, the_code_means_the_same, the_header_and_the_package_mean_the_same,
     the_words_of_a_terminal_mean_the_same, the_help_of_a_terminal_means_the_same,
     the_commands_of_the_formats_mean_the_same, each_status_means_the_same,
-    the_picture_of_the_page_is_the_players, the_picture_of_the_readme_is_shown,
-    the_page_is_clean, fibs_play_is_plain_shell, fibs_play_tells_its_use,
+    the_picture_of_the_page_is_the_players, the_page_is_clean, fibs_play_is_plain_shell, fibs_play_tells_its_use,
     fibs_play_takes_what_the_settings_say, make_installs_them,
 ]
 

@@ -2,8 +2,8 @@
 """Scenes at a terminal, with the built program: python3 -B tests/terminal PROGRAM [WORD..]
 
 Ann sits at a real pseudo-terminal and types what the screen names; the server is examples/fibs_server with whatever
-habit a scene is about, or a prop that sends what no server should. With WORDs only the scenes are played that have one
-in their name. Prints a line for each scene, and what was measured; the last line is 'N passed, M failed'.
+habit a scene is about. What no server says by itself a scene says by a listener. With WORDs only the scenes are played
+that have one in their name. Prints a line for each scene, and what was measured; the last line is 'N passed, M failed'.
 """
 
 import concurrent.futures
@@ -19,9 +19,11 @@ import costs
 import escapes
 import game
 import hints
+import logins
 import logs
 import offers
 import partners
+import pictures
 import play
 import refusals
 import resized
@@ -47,7 +49,7 @@ def main():
     words = sys.argv[2:]
     beside = (offers.SCENES + resuming.SCENES + refusals.SCENES + hints.SCENES + play.SCENES + logs.SCENES
               + game.SCENES + company.SCENES + partners.SCENES + watching.SCENES + spoken.SCENES + babble.SCENES
-              + anything.SCENES + resized.SCENES + whole.SCENES)
+              + anything.SCENES + resized.SCENES + whole.SCENES + logins.SCENES + pictures.SCENES)
     alone = escapes.SCENES + costs.SCENES
     chosen = [[scene for scene in scenes if not words or any(word in scene.__name__ for word in words)]
               for scenes in (beside, alone)]

@@ -7,8 +7,8 @@ import re
 import tempfile
 
 from company import listed, rows_after
-from escapes import BOARD, greeted, with_server
-from people import PROGRAM, Terminal, same
+from escapes import BOARD
+from people import PROGRAM, Terminal, greeted, same, with_listener
 from seats import drawn
 
 SCENES = []
@@ -92,7 +92,7 @@ def files_of_any_bytes_are_answered_line_by_line():
 
 
 @scene
-@with_server
+@with_listener
 def a_list_of_4096_players_is_listed(server):
     """At most a screen of it, and all if one asks; every row fits, and she plays on."""
     ann = greeted(server)
@@ -119,7 +119,7 @@ NAMES = ['n' * 64, '+13-14-15', '|||', 'O', 'X', 'You', '**', "s's", '$(id)', '`
 
 
 @scene
-@with_server
+@with_listener
 def opponents_may_have_any_names(server):
     """The board is drawn, and what may be typed is as ever; nothing goes to the server by itself."""
     ann = greeted(server)
@@ -158,7 +158,7 @@ OTHER_ROWS = ['  bob   3   2-0', '  bob   2 - 0   3', '  bob   3   2 -  0   craw
 
 
 @scene
-@with_server
+@with_listener
 def what_is_no_list_of_saved_matches_says_nothing(server):
     """Each form of the server's answer is read; of any other one each row is shown, and nothing is said of a match."""
     ann = greeted(server)

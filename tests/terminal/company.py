@@ -6,10 +6,9 @@ import random
 import tempfile
 import time
 
-from escapes import BOARD, WELCOME, greeted, with_server
+from escapes import BOARD
 from offers import ANN_BEGINS
-from people import Person, at_a_table, same
-from props.server import OWN_INFO, Server
+from people import OWN_INFO, WELCOME, Listener, Person, at_a_table, greeted, same, with_listener
 from seats import drawn
 
 SCENES = []
@@ -44,7 +43,7 @@ def rows_after(ann, typed, last, seconds=20):
 
 
 @scene
-@with_server
+@with_listener
 def players_are_listed_by_what_one_looks_for(server):
     """At most a screen, near one's own rating first; in any letters; every row fits."""
     ann = greeted(server)
@@ -74,7 +73,7 @@ def players_are_listed_by_what_one_looks_for(server):
 
 
 @scene
-@with_server
+@with_listener
 def long_names_fit(server):
     """Names of 64 bytes; numbers of as many digits as a player may have."""
     ann = greeted(server)
@@ -88,7 +87,7 @@ def long_names_fit(server):
 
 
 @scene
-@with_server
+@with_listener
 def talk_is_kept_and_answered(server):
     """The last twenty rows of people; `re` answers who spoke to her last, and nobody else."""
     ann = greeted(server, TZ='UTC')
@@ -113,7 +112,7 @@ PASSED = ['watch bob', 'unwatch', 'whois bob', 'away for tea', 'back', 'show sav
 
 
 @scene
-@with_server
+@with_listener
 def words_of_the_server_are_sent_as_they_are(server):
     """Each is shown as sent, in the order in which it was typed, and once."""
     ann = greeted(server)
@@ -190,7 +189,7 @@ def own_settings_are_taken_and_what_is_none_is_said():
     with tempfile.TemporaryDirectory() as folder:
         path = os.path.join(folder, 'config')
         pathlib.Path(path).write_bytes(SETTINGS)
-        server = Server()
+        server = Listener()
         ann = Person(server.port, FIBS_CONFIG=path, FIBS_QUIET='')
         ann.reads('fibs: line 7 of %s is no setting: dance with me' % path)
         ann.reads('fibs: line 9 of %s is no setting: gag not a name' % path)
@@ -216,7 +215,7 @@ def settings_of_any_bytes_do_no_harm():
                 path = folder
             else:
                 pathlib.Path(path).write_bytes(content)
-            server = Server()
+            server = Listener()
             ann = Person(server.port, FIBS_CONFIG=path)
             server.accept()
             server.line()
@@ -233,7 +232,7 @@ def settings_of_any_bytes_do_no_harm():
 @scene
 def a_home_that_is_no_folder_has_no_settings():
     """What the path of the settings names as a folder is a device: she plays, and no row speaks of settings."""
-    server = Server()
+    server = Listener()
     ann = Person(server.port, HOME='/dev/null', FIBS_CONFIG=None, XDG_CONFIG_HOME=None)
     server.accept()
     server.line()
@@ -245,7 +244,7 @@ def a_home_that_is_no_folder_has_no_settings():
 
 
 @scene
-@with_server
+@with_listener
 def moves_are_listed_twenty_at_a_time(server):
     """`plays more` goes on where the list ended, to the last move: none twice, none left out; a board begins anew."""
     ann = greeted(server)

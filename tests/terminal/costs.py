@@ -5,8 +5,8 @@ import re
 import statistics
 import time
 
-from escapes import BOARD, greeted, with_server
-from people import Failed, same
+from escapes import BOARD
+from people import Failed, begun, greeted, leaves, logs_in, same, with_listener
 
 from props import peeking
 
@@ -25,16 +25,41 @@ def switches(job):
     return count
 
 
-@with_server
-def no_wakes_at_rest(server):
-    ann = greeted(server)
-    server.send(BOARD)
-    ann.hint()
+def is_at_rest(ann, seconds):
+    """Nothing happens, and nothing is done."""
     time.sleep(1)
     before, ticks = switches(ann.job), ann.ticks()
-    time.sleep(4)
+    time.sleep(seconds)
     same('wakes, and ticks of the processor', (switches(ann.job) - before, ann.ticks() - ticks), (0, 0))
-    ann.close()
+
+
+@with_listener
+def no_wakes_at_rest(server):
+    """By itself, and by fibs-play."""
+    for begins in greeted, lambda server: greeted(server, begun(server)):
+        ann = begins(server)
+        server.send(BOARD)
+        ann.hint()
+        is_at_rest(ann, 4)
+        leaves(ann, server)
+
+
+@with_listener
+def no_wakes_after_a_loss(server):
+    """The loss is said at once, however it came; then nothing is done, and the next connection is heard."""
+    for end in server.drop, server.reset, server.end_sending:
+        ann = greeted(server, begun(server))
+        end()
+        ann.reads('lost: open connects again, quit ends')
+        is_at_rest(ann, 2)
+        ann.type('open')
+        logs_in(server)
+        server.send('12 bob hi again')
+        ann.reads('bob says: hi again')
+        ann.type('quit')
+        ann.ends(0)
+        server.received.clear()
+        ann.close()
 
 
 def until_at_the_server(server, ann, line):
@@ -45,7 +70,7 @@ def until_at_the_server(server, ann, line):
     return 1000 * (time.monotonic() - began)
 
 
-@with_server
+@with_listener
 def milliseconds(server):
     """Measured, and not judged: a machine may do much else."""
     ann = greeted(server)
@@ -68,7 +93,7 @@ def milliseconds(server):
     ann.close()
 
 
-@with_server
+@with_listener
 def memory(server):
     ann = greeted(server)
     server.send(*(['13 eve a line of talk that is heard and shown'] * 20000), BOARD)
@@ -80,7 +105,7 @@ def memory(server):
     ann.close()
 
 
-@with_server
+@with_listener
 def a_dead_router_is_seen(server):
     """The system asks after the other end when the connection is idle, within two minutes."""
     ann = greeted(server)
@@ -95,7 +120,7 @@ def a_dead_router_is_seen(server):
     ann.close()
 
 
-@with_server
+@with_listener
 def what_is_set_of_the_connection(server):
     """Each command leaves at once, a server that is gone is known to be gone, and a read waits for 20 milliseconds."""
     ann = greeted(server)
@@ -107,4 +132,5 @@ def what_is_set_of_the_connection(server):
     ann.close()
 
 
-SCENES = [no_wakes_at_rest, milliseconds, memory, a_dead_router_is_seen, what_is_set_of_the_connection]
+SCENES = [no_wakes_at_rest, no_wakes_after_a_loss, milliseconds, memory, a_dead_router_is_seen,
+          what_is_set_of_the_connection]

@@ -10,37 +10,11 @@ import threading
 import time
 import zoneinfo
 
-import people  # noqa: F401
-from people import Failed, PATIENCE, PROGRAM, Person, Terminal, same
-from props.server import OWN_INFO, WELCOME, Server
+from people import PATIENCE, Failed, Person, greeted, leaves, same, with_listener
 
 # What a terminal does not obey.
 HARMLESS = {chr(code) for code in [10, *range(32, 127)]}
 MILLION = 1000000
-
-
-def greeted(server, **more):
-    """Ann at a terminal, greeted by a server that does what a test says."""
-    ann = Person(server.port, **more)
-    server.accept()
-    same('the login', server.line().split(' ')[:4], ['login', 'fibs_client', '1008', 'ann'])
-    server.send(WELCOME, OWN_INFO % 'ann')
-    same('the first commands', [server.line(), server.line()], ['set boardstyle 3', 'board'])
-    ann.reads('Welcome, ann')
-    return ann
-
-
-def with_server(scene):
-    """A decorator: the scene is given a server of its own."""
-    def run():
-        server = Server()
-        try:
-            scene(server)
-        finally:
-            server.close()
-    run.__name__ = scene.__name__
-    return run
-
 
 BOARD = ('board:You:bob:3:0:0:0:-2:0:0:0:0:5:0:3:0:0:0:-5:5:0:0:0:-3:0:-5:0:0:0:0:2:0:'
          '1:0:0:0:0:1:1:1:0:1:-1:0:25:0:0:0:0:0:0:0:0')
@@ -101,12 +75,12 @@ def a_million_lines_never_act_on_the_terminal(server, **more):
     same('what the server got', server.received[3:], [])
 
 
-@with_server
+@with_listener
 def a_million_lines(server):
     a_million_lines_never_act_on_the_terminal(server)
 
 
-@with_server
+@with_listener
 def letters_of_other_scripts(server):
     """Printable letters are themselves if the terminal has them; no control and no direction mark is."""
     ann = greeted(server, LC_ALL='C.UTF-8')
@@ -123,7 +97,7 @@ def letters_of_other_scripts(server):
     ann.close()
 
 
-@with_server
+@with_listener
 def what_is_malformed_is_shown(server):
     """What is wrong in English, with the number and the name after it; and the line itself."""
     ann = greeted(server)
@@ -135,7 +109,7 @@ def what_is_malformed_is_shown(server):
     ann.close()
 
 
-@with_server
+@with_listener
 def a_flood_does_not_hold_a_typed_line(server):
     """Of a server that sends lines with no pause and no end, so that both are always ready: what is typed goes out
     within a second."""
@@ -195,7 +169,7 @@ def a_host_of_which_one_address_alone_answers():
             ann.close()
 
 
-@with_server
+@with_listener
 def lines_that_are_pasted_are_all_answered(server):
     """A terminal gives each line by itself: what is typed is asked for anew after each."""
     ann = greeted(server)
@@ -205,7 +179,7 @@ def lines_that_are_pasted_are_all_answered(server):
     ann.close()
 
 
-@with_server
+@with_listener
 def nothing_typed_is_lost_when_a_line_comes(server):
     ann = greeted(server)
     for number in range(20):
@@ -217,45 +191,64 @@ def nothing_typed_is_lost_when_a_line_comes(server):
     ann.close()
 
 
-@with_server
+@with_listener
 def the_server_is_heard_after_a_stop(server):
-    """Ctrl-Z while nothing is typed, and fg: a line of the server is shown though still nothing is typed."""
+    """Ctrl-Z and fg, at rest and within a typed line, which goes: what the server says meanwhile, and what it says then,
+    is shown though still nothing is typed."""
     ann = greeted(server)
-    ann.shown(0.5)
-    ann.type_bytes(b'\x1a')
-    ann.is_stopped()
-    ann.to_the_foreground()
-    ann.shown(0.5)
-    server.send('12 bob still here')
-    ann.reads('bob says: still here', seconds=10)
-    ann.close()
+    for half in b'', b'say never', b'':
+        ann.type_bytes(half + b'\x1a')
+        ann.is_stopped()
+        server.send('12 bob while you were away')
+        ann.to_the_foreground()
+        ann.reads('bob says: while you were away', seconds=10)
+        ann.shown(0.5)
+        server.send('12 bob still here')
+        ann.reads('bob says: still here', seconds=10)
+    ann.type('say back')
+    ann.reads('sent say back')
+    leaves(ann, server, 'say back')
 
 
-@with_server
-def a_server_that_is_slow_to_log_in(server):
-    """It has asked for the login before it reads the one that was sent: that is no wrong password yet."""
-    ann = Person(server.port)
-    server.accept()
-    server.send_bytes(b'Welcome to a slow one.\r\nlogin: ')
-    same('the login', server.line().split(' ')[:2], ['login', 'fibs_client'])
-    time.sleep(0.8)
-    server.send('', WELCOME)
-    ann.reads('Welcome, ann')
-    same('what is wrong', [line for line in ann.lines() if 'Not logged in' in line], [])
-    ann.close()
+@with_listener
+def eight_megabytes_are_shown_whole(server):
+    """Lines of 900 bytes, sent at once."""
+    ann = greeted(server)
+    at = len(ann.screen())
+    lines = ['line_%d_%s' % (number, 'x' * 900) for number in range(9000)]
+    sender = threading.Thread(target=server.send, args=lines, daemon=True)
+    sender.start()
+    ann.sees('line_8999_', 'x\r\n')
+    sender.join()
+    # what the greeting is answered by may still come before them
+    shown = ann.screen()[at:]
+    same('all is shown', shown[shown.index('line_0_'):].splitlines() == lines, True)
+    leaves(ann, server)
 
 
-@with_server
-def a_server_that_refuses_a_login(server):
-    """What it says of it is shown though nothing is typed, and so is that nobody is logged in."""
-    ann = Person(server.port)
-    server.accept()
-    server.send_bytes(b'Welcome to a strict one.\r\nlogin: ')
-    ann.reads('strict one')
-    server.send_bytes(b'\r\n** User not known or wrong password.\r\nlogin: ')
-    ann.reads('** User not known or wrong password.')
-    ann.reads('Not logged in')
-    ann.close()
+@with_listener
+def closed_in_mid_picture(server):
+    """The terminal goes while boards are drawn: the program ends by the shell's hangup, or sooner by itself."""
+    for more, wanted in ({}, [0, 4, 129]), ({'NOHUP': '1'}, [0, 4]):
+        ann = greeted(server, **more)
+        boards = threading.Thread(target=sends_until_it_is_over, args=(server,), daemon=True)
+        boards.start()
+        ann.hint()
+        ann.hangs_up()
+        kind, status = ann.report()
+        same('the ending by %s' % status, (kind, int(status) in wanted), ('ended', True))
+        boards.join(PATIENCE)
+        server.received.clear()
+        ann.close()
+
+
+def sends_until_it_is_over(server):
+    """Board after board."""
+    try:
+        while True:
+            server.send(*[BOARD] * 100)
+    except OSError:
+        pass
 
 
 # What is set in the environment, and what is shown then: whether letters are bold, what a letter of another script is,
@@ -276,7 +269,7 @@ ENVIRONMENTS = [
 ]
 
 
-@with_server
+@with_listener
 def what_the_environment_says(server):
     for more, bold, letter, clock in ENVIRONMENTS:
         ann = greeted(server, **more)
@@ -305,7 +298,7 @@ PLACES = [('Europe/Berlin', 'Europe/Berlin'), (':America/New_York', 'America/New
 TIMES = [1041253132, 1057000000, 1743296399, 1743296400, 1762063199, 1762063200, 1743868799, 1743868800, 0]
 
 
-@with_server
+@with_listener
 def the_clock_of_the_place(server):
     """By what Python says of the same zones; also if the zones are elsewhere."""
     if not os.path.isdir(ZONES):
@@ -331,64 +324,7 @@ def the_clock_of_the_place(server):
             ann.close()
 
 
-def a_password_that_is_typed():
-    """It is asked for, if what is typed comes from a terminal."""
-    server = Server()
-    terminal = Terminal([PROGRAM, 'connect', '127.0.0.1', str(server.port), 'ann'], FIBS_QUIET='1')
-    terminal.sees('password: ')
-    terminal.type('secret')
-    server.accept()
-    same('the login', server.line(), 'login fibs_client 1008 ann secret')
-    terminal.close()
-    server.close()
-
-
-def a_password_that_is_asked_for_beside_the_output():
-    """What goes to a file has no prompt in it."""
-    server = Server()
-    with tempfile.NamedTemporaryFile() as file:
-        run = ['sh', '-c', 'exec "$0" connect 127.0.0.1 "$1" ann > "$2"', PROGRAM, str(server.port), file.name]
-        terminal = Terminal(run, FIBS_QUIET='1')
-        terminal.sees('password: ')
-        terminal.type('secret')
-        server.accept()
-        same('the login', server.line(), 'login fibs_client 1008 ann secret')
-        server.send('12 bob hi')
-        end = time.monotonic() + PATIENCE
-        while not (written := file.read()).endswith(b'hi\n') and time.monotonic() < end:
-            file.seek(0)
-            time.sleep(0.01)
-        same('what the file has', (b'password' in written, written[-3:]), (False, b'hi\n'))
-        terminal.type('quit')
-        terminal.ends(0)
-        terminal.close()
-    server.close()
-
-
-def what_show_says_at_a_terminal():
-    """What is left over at the end of its input; what is too long is a text; and an input that can't be read. Nobody knows
-    when the talk was said."""
-    rows = [
-        (b'12 bob hi\nhalf', ['bob says: hi\n', 'unfinished 4\n'], [' bob says'], 0),
-        (b'text\n16 bob hi\n', ['text\nYou say to bob: hi\n'], [], 0),
-        (b'12 bob hi\n', ['bob says: hi\n'], ['unfinished'], 0),
-        (b'12 bob ' + b'a' * 16384 + b'\n', ['12 bob\naaa'], ['says'], 0),
-        (None, ['fibs: device\nfibs: standard input: it is a directory\n'], [], 4),
-    ]
-    for given, wanted, never, status in rows:
-        with tempfile.NamedTemporaryFile() as file:
-            file.write(given or b'')
-            file.flush()
-            terminal = Terminal(['sh', '-c', 'exec "$0" show < "$1"', PROGRAM, '/' if given is None else file.name])
-            terminal.ends(status)
-            shown = terminal.screen()
-            same('shown of %.20r' % given, ([text in shown for text in wanted], [text in shown for text in never]),
-                 ([True] * len(wanted), [False] * len(never)))
-            terminal.close()
-
-
 SCENES = [a_million_lines, letters_of_other_scripts, what_is_malformed_is_shown, a_flood_does_not_hold_a_typed_line,
-          a_host_of_which_one_address_alone_answers, lines_that_are_pasted_are_all_answered,
-          nothing_typed_is_lost_when_a_line_comes, the_server_is_heard_after_a_stop, a_server_that_is_slow_to_log_in,
-          a_server_that_refuses_a_login, what_the_environment_says, the_clock_of_the_place, a_password_that_is_typed, a_password_that_is_asked_for_beside_the_output,
-          what_show_says_at_a_terminal]
+          eight_megabytes_are_shown_whole, a_host_of_which_one_address_alone_answers,
+          lines_that_are_pasted_are_all_answered, nothing_typed_is_lost_when_a_line_comes,
+          the_server_is_heard_after_a_stop, closed_in_mid_picture, what_the_environment_says, the_clock_of_the_place]

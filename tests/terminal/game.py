@@ -9,7 +9,8 @@ import re
 import sys
 import time
 
-from people import ROOT, Failed, Person, Served, same
+from people import PASSWORD, PATIENCE, ROOT, Failed, Person, Served, begun, same
+from terminals import KINDS
 from words import ENDED, read
 
 PAGE = ROOT / 'docs' / 'GAME.md'
@@ -116,6 +117,51 @@ def is_on_the_page(block):
     same('rows', len(rows), len(wanted))
 
 
+# What is another one each time, at the ends of a row.
+FRONT, END = re.compile(r'\d\d:\d\d '), re.compile(r'(?<=^connected to 127\.0\.0\.1:)\d+|(?<=Last login: ).*')
+
+
+def the_page_is_the_game_with_fibs_play():
+    """The same rows below its question, and neither the password nor anything else. If lines are edited the rows come
+    in their order, whatever is drawn between them, and what was typed is kept."""
+    rows = rows_of_the_page()
+    typed = [row[2:] for row in rows if row.startswith('> ')]
+    for kind in KINDS:
+        server = Served(*SERVER)
+        try:
+            ann = begun(server, kind, NO_COLOR='1')
+            at = 0
+            for row in rows:
+                if row.startswith('> '):
+                    ann.type(row[2:])
+                    row = row[2:]
+                at = shows(ann, END.sub('', FRONT.sub('', row)), at)
+            ann.ends(0)
+            same('echo', ann.echoes(), True)
+            same('the password is shown', PASSWORD in ann.screen(), False)
+            if kind == 'dumb':
+                same('the screen', [same_each_time(row) for row in ann.lines()],
+                     ['password: ', *(row.removeprefix('> ') for row in rows)])
+            else:
+                kept = ''.join(path.read_text() for path in ann.home.iterdir() if path.is_file())
+                same('what is kept', [line for line in typed if line not in kept.split('\n')], [])
+                same('the password is kept', PASSWORD in kept, False)
+            ann.close()
+        finally:
+            server.close()
+
+
+def shows(ann, text, at):
+    """Waits until a text is on the screen after so many letters; how many there are up to its end."""
+    end = time.monotonic() + PATIENCE
+    while (found := ann.plain().find(text, at)) < 0:
+        if time.monotonic() > end:
+            raise Failed('%r is not shown after %r' % (text, ann.plain()[:at][-200:]))
+        with ann.news:
+            ann.news.wait(0.2)
+    return found + len(text)
+
+
 def main():
     parts = PAGE.read_text().split('```')
     began = time.monotonic()
@@ -125,7 +171,7 @@ def main():
     print('recorded in %.0f s' % (time.monotonic() - began))
 
 
-SCENES = [the_page_is_the_game, the_page_is_what_is_heard]
+SCENES = [the_page_is_the_game, the_page_is_what_is_heard, the_page_is_the_game_with_fibs_play]
 
 if __name__ == '__main__':
     sys.exit(main())

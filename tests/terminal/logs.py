@@ -5,9 +5,9 @@ import pathlib
 import subprocess
 import time
 
-from escapes import BOARD, WELCOME, with_server
-from people import PASSWORD, PASSWORD_FILE, PATIENCE, PROGRAM, ROOM, Failed, Person, same
-from props.server import OWN_INFO
+from escapes import BOARD
+from people import (OWN_INFO, PASSWORD, PASSWORD_FILE, PATIENCE, PROGRAM, ROOM, WELCOME, Failed, Person, same,
+                    with_listener)
 
 OWN = OWN_INFO % 'ann'
 
@@ -33,7 +33,7 @@ def holds(path, *texts):
         time.sleep(0.02)
 
 
-@with_server
+@with_listener
 def each_line_as_it_came_and_what_was_sent(server):
     path = os.path.join(ROOM.name, 'log of a game')
     pathlib.Path(path).write_bytes(b'what was there before\n')
@@ -69,7 +69,7 @@ def each_line_as_it_came_and_what_was_sent(server):
     same('the status', done.returncode, 0)
 
 
-@with_server
+@with_listener
 def the_login_is_kept_without_its_password(server):
     """By a pipe too: neither the log nor the account has the password; a log that can't be written is said."""
     path = os.path.join(ROOM.name, 'log of a pipe')
@@ -94,7 +94,7 @@ def the_login_is_kept_without_its_password(server):
     same('a log that is a folder', (done.returncode, len(done.stderr.splitlines())), (4, 1))
 
 
-@with_server
+@with_listener
 def two_connections_in_one_log(server):
     """The login of the second is left out too, and half a line of the first is no part of it."""
     path = os.path.join(ROOM.name, 'log of two connections')
@@ -113,7 +113,7 @@ def two_connections_in_one_log(server):
     same('the log', pathlib.Path(path).read_text(), (WELCOME + '\n>> set boardstyle 3\n') * 2)
 
 
-@with_server
+@with_listener
 def a_log_that_is_full(server):
     """That is said once, what can't be written any more is left out, and the game goes on."""
     ann = Person(server.port, words=('--log', '/dev/full'))
@@ -131,7 +131,7 @@ def a_log_that_is_full(server):
     ann.close()
 
 
-@with_server
+@with_listener
 def a_log_of_a_pipe_that_is_full(server):
     """The account is as without it, and standard error says it once."""
     program = subprocess.Popen([PROGRAM, 'connect', '--log', '/dev/full', '--password-file', PASSWORD_FILE, '127.0.0.1',
@@ -146,7 +146,7 @@ def a_log_of_a_pipe_that_is_full(server):
           "fibs: the log can't be written: no space left on device\n"))
 
 
-@with_server
+@with_listener
 def a_log_is_for_its_owner_alone(server):
     """One that is there already stays as it is."""
     path = os.path.join(ROOM.name, 'log of one')

@@ -6,10 +6,11 @@ import re
 import tempfile
 
 from company import HEAD, listed, rows_after
-from escapes import BOARD, WELCOME, greeted, with_server
+from escapes import BOARD
 from offers import ANN_BEGINS
-from people import PASSWORD_FILE, PROGRAM, Client, Person, Terminal, at_a_table, near_and_far, same
-from props.server import OWN_INFO, Server
+from people import (LOGIN, OWN_INFO, PASSWORD, PASSWORD_FILE, PROGRAM, WELCOME, Client, Listener, Person, Terminal,
+                    at_a_table, greeted, near_and_far, same, with_listener)
+from terminals import FROM_FILE
 
 SCENES = []
 
@@ -32,7 +33,7 @@ BOB = ('bob', '-', 1623.4, 4012, 0, 1)
 
 
 @scene
-@with_server
+@with_listener
 def who_invites_is_said_in_a_row(server):
     """With rating and experience if he is listed; in place of the server's two rows; and how one joins."""
     ann = greeted(server)
@@ -61,7 +62,7 @@ def who_invites_is_said_in_a_row(server):
 
 
 @scene
-@with_server
+@with_listener
 def what_is_no_invitation_is_shown_as_it_is(server):
     """Nothing is said that the server has not said; a name of 64 bytes fits in two rows."""
     ann = greeted(server)
@@ -88,7 +89,7 @@ SAVED = ['  opponent          matchlength   score (your points first)', '  bob  
 
 
 @scene
-@with_server
+@with_listener
 def who_has_a_saved_match_is_said_to_be_here(server):
     """By the answer to `show saved`, when he logs in; and a star marks him in the list, in which ann is not."""
     ann = greeted(server)
@@ -121,7 +122,7 @@ def who_has_a_saved_match_is_said_to_be_here(server):
 
 
 @scene
-@with_server
+@with_listener
 def a_flood_of_saved_matches_is_no_harm(server):
     """A list of 4096: a hundred are kept, and she plays on; the message of the day is no list."""
     ann = greeted(server)
@@ -178,7 +179,7 @@ def board_of(turn, own=(0, 0), other=(0, 0), changes=()):
 
 
 @scene
-@with_server
+@with_listener
 def what_boards_do_not_show_is_a_question_mark(server):
     """Both players' plays, a roll that can't be played, a board that is missing; twenty rows, and then all."""
     ann = greeted(server)
@@ -216,7 +217,7 @@ def the_title_says_whose_turn_it_is():
         for kind, more, has in [('xterm', {}, True), ('tmux-256color', {}, True), ('dumb', {}, False),
                                 ('linux', {}, False), ('xterm', {'FIBS_QUIET': '1'}, False),
                                 ('xterm', {'FIBS_CONFIG': path}, False)]:
-            server = Server()
+            server = Listener()
             ann = greeted(server, TERM=kind, **{'FIBS_QUIET': '', **more})
             server.send(board_of(1), board_of(-1, other=(6, 5)), '12 x y')
             ann.reads('x says: y')
@@ -234,7 +235,7 @@ def the_title_says_whose_turn_it_is():
 @scene
 def the_title_is_put_back_though_what_is_typed_can_not_be_read():
     """It comes from a connection that breaks."""
-    server, typed = Server(), Server()
+    server, typed = Listener(), Listener()
     ann = Terminal(['bash', '-c', 'port=$1; shift; exec "$@" < "/dev/tcp/127.0.0.1/$port"', 'bash', str(typed.port),
                     PROGRAM, 'connect', '--password-file', PASSWORD_FILE, '127.0.0.1', str(server.port), 'ann'],
                    TERM='xterm')
@@ -259,7 +260,7 @@ def the_order_of_the_settings_is_given_on_each_connection():
     with tempfile.TemporaryDirectory() as folder:
         path = os.path.join(folder, 'config')
         pathlib.Path(path).write_text('order roll\n')
-        server = Server()
+        server = Listener()
         ann = Person(server.port, FIBS_CONFIG=path)
         for _ in range(2):
             server.accept()
@@ -277,7 +278,7 @@ def the_order_of_the_settings_is_given_on_each_connection():
         ann.close()
         server.close()
         pathlib.Path(path).write_text('# no order\n')
-        server = Server()
+        server = Listener()
         ann = Person(server.port, FIBS_CONFIG=path)
         server.accept()
         server.line()
@@ -291,12 +292,34 @@ def the_order_of_the_settings_is_given_on_each_connection():
 
 
 @scene
+@with_listener
+def an_order_of_the_settings_is_in_no_typed_line(server):
+    """Of a pipe a typed line may come in parts: the order that the settings ask for waits for its end."""
+    with tempfile.TemporaryDirectory() as folder:
+        config, pipe = os.path.join(folder, 'config'), os.path.join(folder, 'typed')
+        pathlib.Path(config).write_text('order roll\n')
+        os.mkfifo(pipe)
+        ann = Terminal([*FROM_FILE, pipe, PROGRAM, 'connect', '127.0.0.1', str(server.port), 'ann'], FIBS_CONFIG=config)
+        with open(pipe, 'w', buffering=1) as typed:
+            # both at once
+            typed.write(PASSWORD + '\nsay as you ')
+            typed.flush()
+            server.accept()
+            same('the login', server.line(), LOGIN)
+            typed.write('wish\n')
+            same('what was typed', server.line(), 'say as you wish')
+            ann.sees('ordered: the client rolls')
+        ann.ends(0)
+        ann.close()
+
+
+@scene
 def a_wrong_setting_is_named_with_its_file_and_line():
     """Also if the path is long, and in any bytes."""
     with tempfile.TemporaryDirectory() as folder:
         path = os.path.join(folder, 'my settings')
         pathlib.Path(path).write_bytes(b'quiet\norder bread\n\xff\xfe\x1b[2J\nno titles\n')
-        server = Server()
+        server = Listener()
         ann = Person(server.port, FIBS_CONFIG=path)
         server.accept()
         server.line()
@@ -310,7 +333,7 @@ def a_wrong_setting_is_named_with_its_file_and_line():
 
 
 @scene
-@with_server
+@with_listener
 def the_width_is_what_one_says(server):
     """`columns 60` cuts the next picture; what is no width is said."""
     ann = greeted(server)
@@ -338,7 +361,7 @@ NARROW = ['13-14-15-16-17-18-+---19-20-21-22-23-24-', ' O           X    |    X 
 
 
 @scene
-@with_server
+@with_listener
 def forty_columns_keep_each_place_and_the_dice(server):
     """At 40 columns and at 50, with and without colours, each row fits, and none is broken in a word."""
     for columns, kind in (40, 'dumb'), (50, 'xterm'):
@@ -375,7 +398,7 @@ def drawn_places(rows, columns):
 
 
 @scene
-@with_server
+@with_listener
 def letters_and_side_are_ones_own(server):
     """Other letters for O and X, and one's home above; what is no letter of checkers is named."""
     with tempfile.TemporaryDirectory() as folder:
@@ -401,7 +424,7 @@ KINDS = [{'columns': 60, 'rows': 15, 'COLUMNS': '60'}, {'columns': 40, 'COLUMNS'
 
 
 @scene
-@with_server
+@with_listener
 def each_kind_of_screen_leads_on(server):
     """At 60 by 15, at 40 columns, with TERM=dumb, NO_COLOR and FIBS_WORDS: whose match is saved, who invites, the game."""
     for kind in KINDS:
@@ -424,7 +447,7 @@ def each_kind_of_screen_leads_on(server):
 
 
 @scene
-@with_server
+@with_listener
 def a_move_is_tried_on_each_kind_of_screen(server):
     """At 60 by 15, at 40 columns, with TERM=dumb, NO_COLOR and FIBS_WORDS: what was tried is what goes out."""
     for kind in KINDS:

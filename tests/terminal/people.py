@@ -1,7 +1,7 @@
 """One who plays at a terminal, and reads there what may be typed: the helpers of the scenes.
 
-The player is ann, at a real pseudo-terminal on which the built program runs. Her opponent bob is a scripted client of
-tests/server, so that he can do the right thing at the wrong moment.
+The player is ann, at a real pseudo-terminal on which the built program runs, by itself or by fibs-play. Her opponent
+bob is a scripted client of tests/server, so that he can do the right thing at the wrong moment.
 """
 
 import os
@@ -16,7 +16,8 @@ sys.path[:0] = [str(ROOT / 'tests'), str(ROOT / 'tests' / 'server')]
 
 from clients import Client, Served
 from props.checks import PATIENCE, Failed, same
-from props.terminals import PASSWORD, Terminal
+from props.listener import OWN_INFO, WELCOME, Listener
+from terminals import PASSWORD, PLAY, Terminal
 from words import REFUSED, read
 
 PROGRAM = os.path.realpath(sys.argv[1]) if len(sys.argv) > 1 else ''
@@ -31,17 +32,22 @@ SOON = 20
 # What a terminal that knows bold letters is sent for them.
 BOLD = re.compile(r'\x1b\[[0-9;]*m')
 
+# What rlwrap draws is its own: this is all that is no text.
+DRAWN = re.compile(r'\x1b\[[0-9;?]*[a-zA-Z@]|\x1b[=>]|\r|\x07')
+
+# What the program sends first, and then if it is greeted.
+LOGIN = 'login fibs_client 1008 ann ' + PASSWORD
+FIRST = [LOGIN, 'set boardstyle 3', 'board']
+
 # A far server: what it sends takes a while, and comes in pieces between which the screen rests.
 FAR = '--delay', '60', '--portions', '60', '--pause', '25'
 
 
-class Person(Terminal):
-    """One at a terminal."""
+class Reader(Terminal):
+    """One who reads the lines of a terminal."""
 
-    def __init__(self, port, name='ann', words=(), columns=80, rows=24, host='127.0.0.1', **more):
-        command = [PROGRAM, 'connect', '--password-file', PASSWORD_FILE, *words, host, str(port), name]
-        more = {'FIBS_QUIET': '1', 'LC_ALL': 'C', 'TZ': 'UTC', **more}
-        super().__init__(command, columns, rows, **more)
+    def __init__(self, command, columns=80, rows=24, **more):
+        super().__init__(command, columns, rows, **{'FIBS_QUIET': '1', 'LC_ALL': 'C', 'TZ': 'UTC', **more})
         # the lines that were taken from the screen, up to which byte of it, and how many of them were read
         self.taken, self.taken_to, self.read_to = [], 0, 0
 
@@ -111,6 +117,45 @@ class Person(Terminal):
         same('what was refused', self.was_refused(), [])
 
 
+class Person(Reader):
+    """One who plays with the program alone."""
+
+    def __init__(self, port, name='ann', words=(), columns=80, rows=24, host='127.0.0.1', **more):
+        command = [PROGRAM, 'connect', '--password-file', PASSWORD_FILE, *words, host, str(port), name]
+        super().__init__(command, columns, rows, **more)
+
+
+class Typist(Reader):
+    """One who has begun fibs-play."""
+
+    def __init__(self, words, kind='xterm', shell=(), play=PLAY, password=True, columns=80, **more):
+        home = tempfile.mkdtemp(dir=ROOM.name)
+        super().__init__([*shell, play, *words], columns, **{
+            'TERM': kind, 'FIBS': PROGRAM, 'HOME': home, 'RLWRAP_HOME': home, **more})
+        self.home = pathlib.Path(home)
+        if password:
+            self.sees('password: ')
+            same('the terminal shows what is typed', self.echoes(), False)
+            self.type(PASSWORD)
+
+    def plain(self):
+        return DRAWN.sub('', self.screen())
+
+    def is_shown(self, text, count=1, seconds=PATIENCE):
+        """Waits until a text is on the screen so often, whatever is drawn between its letters."""
+        end = time.monotonic() + seconds
+        while self.plain().count(text) < count:
+            if time.monotonic() > end:
+                raise Failed('%r is not shown: %r' % (text, self.plain()[-300:]))
+            with self.news:
+                self.news.wait(0.2)
+
+
+def begun(server, kind='dumb', options=(), **more):
+    """One who has begun fibs-play, at this server."""
+    return Typist([*options, '127.0.0.1', str(server.port), 'ann'], kind, **more)
+
+
 class Table:
     """A server that has these habits, bob at it, and ann at a terminal."""
 
@@ -173,3 +218,49 @@ def near_and_far(scenes, *options):
         scenes.append(named(at_a_table(*options, *FAR)(does), does, '_far_away'))
         return does
     return decorated
+
+
+# -- a listener, by which a scene says each line itself --------------------------------------------------------------
+
+def logs_in(server):
+    """The next connection begins with ann's login."""
+    server.accept()
+    same('the login', server.line(), LOGIN)
+
+
+def greeted(server, ann=None, listed=(), **more):
+    """Ann at a terminal, greeted by a server that does what a test says, and that may list players behind it."""
+    ann = ann or Person(server.port, **more)
+    logs_in(server)
+    server.send(WELCOME, OWN_INFO % 'ann', *listed)
+    same('the first commands', [server.line(), server.line()], FIRST[1:])
+    ann.reads('Welcome, ann')
+    return ann
+
+
+def has_received(server, *lines):
+    """At the end of a connection the server has received the first lines, these, and not a byte more."""
+    while server.line() is not None:
+        pass
+    same('all that was received', (server.received, server.unread), ([*FIRST, *lines], b''))
+    server.received.clear()
+
+
+def leaves(ann, server, *lines):
+    """Ann quits, and the server has received these lines and no more."""
+    ann.type('quit')
+    ann.ends(0)
+    has_received(server, *lines)
+    ann.close()
+
+
+def with_listener(scene):
+    """A decorator: the scene is given a server of its own."""
+    def run():
+        server = Listener()
+        try:
+            scene(server)
+        finally:
+            server.close()
+    run.__name__ = scene.__name__
+    return run

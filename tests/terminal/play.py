@@ -4,63 +4,44 @@ import os
 import pathlib
 import re
 import shutil
+import signal
 import subprocess
 import tempfile
 import time
 
-from people import PASSWORD, PATIENCE, PROGRAM, ROOM, Client, Failed, Served, Terminal, same
-from props.terminals import PLAY, RLWRAP, SHELLS
+from people import (LOGIN, PASSWORD, PATIENCE, PROGRAM, ROOM, ROOT, Client, Failed, Served, Typist, begun, greeted,
+                    leaves, same, with_listener)
+from terminals import KINDS, PLAY, RLWRAP, SHELLS
 
-# What rlwrap draws is its own: this is all that is no text.
-DRAWN = re.compile(r'\x1b\[[0-9;?]*[a-zA-Z@]|\r|\x07')
 REFUSED = 2
 
+# What a person is told of a password that is not valid.
+NO_PASSWORD = 'A password has printable ASCII characters, at least one, no space. [2 BadText]'
+TOO_LONG = 'A password has at most 64 characters. [3 TooLong]'
 
-class Typist(Terminal):
-    """One who has begun fibs-play."""
 
-    def __init__(self, words, kind='xterm', shell=(), play=PLAY, password=True, columns=80, **more):
-        home = tempfile.mkdtemp(dir=ROOM.name)
-        super().__init__([*shell, play, *words], columns, **{
-            'TERM': kind, 'FIBS': PROGRAM, 'HOME': home, 'RLWRAP_HOME': home, 'LC_ALL': 'C', 'FIBS_QUIET': '1', **more})
-        if password:
-            self.sees('password: ')
-            self.type(PASSWORD)
-
-    def plain(self):
-        return DRAWN.sub('', self.screen())
-
-    def drawn(self):
-        """The rows as they stand on the terminal."""
-        rows, at = [[]], 0
-        for found in re.finditer(r'\x1b\[(\d*)([a-zA-Z@])|(.)', self.screen(), re.S):
-            count, order, letter = found.groups()
-            row = rows[-1]
-            if letter == '\n':
-                rows.append([])
-                at = 0
-            elif letter == '\r':
-                at = 0
-            elif order == 'K':
-                del row[at:]
-            elif order in ('C', 'D'):
-                at = max(0, at + (1 if order == 'C' else -1) * int(count or 1))
-            elif letter == '\b':
-                at = max(0, at - 1)
-            elif letter and letter >= ' ':
-                row += ' ' * (at + 1 - len(row))
-                row[at] = letter
-                at += 1
-        return [''.join(row) for row in rows]
-
-    def is_shown(self, text, count=1, seconds=PATIENCE):
-        """Waits until a text is on the screen so often, whatever is drawn between its letters."""
-        end = time.monotonic() + seconds
-        while self.plain().count(text) < count:
-            if time.monotonic() > end:
-                raise Failed('%r is not shown: %r' % (text, self.plain()[-300:]))
-            with self.news:
-                self.news.wait(0.2)
+def drawn(player):
+    """The rows as they stand on the terminal."""
+    rows, at = [[]], 0
+    for found in re.finditer(r'\x1b\[(\d*)([a-zA-Z@])|(.)', player.screen(), re.S):
+        count, order, letter = found.groups()
+        row = rows[-1]
+        if letter == '\n':
+            rows.append([])
+            at = 0
+        elif letter == '\r':
+            at = 0
+        elif order == 'K':
+            del row[at:]
+        elif order in ('C', 'D'):
+            at = max(0, at + (1 if order == 'C' else -1) * int(count or 1))
+        elif letter == '\b':
+            at = max(0, at - 1)
+        elif letter and letter >= ' ':
+            row += ' ' * (at + 1 - len(row))
+            row[at] = letter
+            at += 1
+    return [''.join(row) for row in rows]
 
 
 def with_server(scene, *options, more=''):
@@ -80,7 +61,7 @@ def with_server(scene, *options, more=''):
 
 def in_play(server, **more):
     """One who is logged in, and whose lines are edited."""
-    player = Typist(['127.0.0.1', str(server.port), 'ann'], **more)
+    player = begun(server, 'xterm', **more)
     player.is_shown('Welcome, ann')
     player.shown(0.3)
     return player
@@ -118,10 +99,11 @@ def interrupts(player):
 
 @with_server
 def ctrl_c_after_a_stop(server):
-    """Ctrl-Z and fg: the key cancels as before."""
+    """Ctrl-Z and fg: the shell shows what is typed, and then the key cancels as before."""
     player = in_play(server)
     player.type_bytes(b'\x1a')
     player.is_stopped()
+    same('echo of the shell', player.echoes(), True)
     player.to_the_foreground()
     player.shown(0.5)
     player.type_bytes(b'tell eve never')
@@ -152,7 +134,7 @@ def tab_completes_the_players_names(server):
 def a_small_terminal(server):
     """The program is told how many columns there are: no row of a picture is wider."""
     for kind in 'xterm', 'dumb':
-        player = Typist(['127.0.0.1', str(server.port), 'ann'], kind=kind, columns=60)
+        player = begun(server, kind, columns=60)
         player.is_shown('Welcome, ann')
         player.type('invite eve 3')
         player.is_shown('-+   O You')
@@ -171,7 +153,7 @@ def a_word_where_rlwrap_is_missing():
         with tempfile.TemporaryDirectory() as room:
             for name in 'sh', 'stty', 'dirname', 'cat':
                 os.symlink(shutil.which(name), os.path.join(room, name))
-            player = Typist(['127.0.0.1', str(server.port), 'ann'], PATH=room)
+            player = begun(server, 'xterm', PATH=room)
             player.is_shown('Welcome, ann')
             same('the first line', player.plain().split('\n')[0],
                  'fibs-play: without rlwrap lines are not edited, and Ctrl-C ends the program.')
@@ -205,7 +187,7 @@ def a_log(server):
     """It is handed through, the password is not in it, and so it is if nothing is edited."""
     for kind in 'xterm', 'dumb':
         log = os.path.join(ROOM.name, 'log of ' + kind)
-        player = Typist(['--log', log, '127.0.0.1', str(server.port), 'ann'], kind=kind)
+        player = begun(server, kind, ['--log', log])
         player.is_shown('Welcome, ann')
         player.type('tell eve hi')
         player.is_shown('hello')
@@ -231,7 +213,7 @@ def pictures_stand_straight(server):
     for _ in range(3):
         player.type('board')
         player.shown(1)
-    rows = [row for row in player.drawn() if '+13-14-15' in row]
+    rows = [row for row in drawn(player) if '+13-14-15' in row]
     same('pictures were drawn', len(rows) > 3, True)
     same('rows that do not begin where the others do', [row for row in rows if not row.startswith(' +13-14-15')], [])
     player.close()
@@ -252,6 +234,94 @@ def a_half_typed_line_is_kept(server):
     player.close()
 
 
+# At the question for the password: what is typed or sent, the status, and what is on the screen then.
+QUESTIONS = [
+    (b'\x03', 130, ''), (b'\x1c', 131, ''), (b'\x04', 0, ''), (signal.SIGTERM, 143, ''), (signal.SIGHUP, 129, ''),
+    (b'hun\x03', 130, ''), (b'\n', 3, NO_PASSWORD + '\n'), (b'a b\n', 3, NO_PASSWORD + '\n'),
+    (b'a' * 65 + b'\n', 3, TOO_LONG + '\n'),
+]
+
+
+@with_listener
+def the_question_ends(server):
+    """By each shell: nothing is shown of what is typed, the terminal is as it was, and nobody has connected."""
+    for shell in SHELLS:
+        for given, status, said in QUESTIONS:
+            player = begun(server, shell=shell, password=False)
+            player.sees('password: ')
+            player.is_waiting()
+            if isinstance(given, bytes):
+                player.type_bytes(given)
+            else:
+                os.kill(player.job, given)
+            player.ends(status)
+            same('the screen after %r, by %r' % (given, shell), (player.screen(), player.echoes()),
+                 ('password: \n' + said, True))
+            player.close()
+    server.is_alone()
+
+
+@with_listener
+def a_stop_does_not_show_the_password(server):
+    """By each shell: Ctrl-Z at the question does nothing, since a shell would turn the echo on."""
+    for shell in SHELLS:
+        player = begun(server, shell=shell, password=False)
+        player.sees('password: ')
+        player.type_bytes(PASSWORD[:3].encode() + b'\x1a')
+        player.shown()
+        same('echo', player.echoes(), False)
+        player.type(PASSWORD)
+        server.accept()
+        same('received', server.line().endswith(PASSWORD), True)
+        player.type('quit')
+        player.ends(0)
+        same('the password is shown', PASSWORD in player.screen(), False)
+        player.close()
+
+
+@with_listener
+def the_password_is_in_no_list_of_processes(server):
+    for kind in KINDS:
+        player = greeted(server, begun(server, kind))
+        for name in 'cmdline', 'environ':
+            for process in pathlib.Path('/proc').glob('[0-9]*'):
+                try:
+                    found = (process / name).read_bytes()
+                except OSError:
+                    continue
+                if PASSWORD.encode() in found and int(process.name) != os.getpid():
+                    raise Failed('%s of %s' % (name, process))
+        leaves(player, server)
+
+
+@with_listener
+def fibs_play_without_a_terminal(server):
+    """The first line is the password, then."""
+    done = subprocess.run([PLAY, '127.0.0.1', str(server.port), 'ann'], input=PASSWORD.encode() + b'\n',
+                          env={**os.environ, 'FIBS': PROGRAM}, capture_output=True, timeout=PATIENCE, check=False)
+    same('the run', (done.returncode, done.stdout, done.stderr), (0, b'', b''))
+    server.accept()
+    same('received', server.line(), LOGIN)
+
+
+@with_listener
+def tab_completes_the_words(server):
+    """As it is installed, with the words of typed lines beside it: Tab puts no space at a line's end."""
+    if not RLWRAP:
+        return
+    with tempfile.TemporaryDirectory() as room:
+        subprocess.run(['make', '-s', 'install-surface', 'PREFIX=' + room], cwd=ROOT, check=True, capture_output=True)
+        player = greeted(server, begun(server, 'xterm', play=os.path.join(room, 'bin', 'fibs-play')))
+        player.shown(0.3)
+        player.type_bytes(b'withd\t')
+        player.sees('withdraw')
+        player.type_bytes(b' ro\t')
+        player.sees(' roll')
+        player.type('')
+        player.sees('[12 NotOrdered]')
+        leaves(player, server)
+
+
 # how the wire is, after an opening with which ann begins
 WIRES = [((), ''), (('--delay', '80'), '_over_a_wire_with_delay'),
          (('--portions', '60', '--pause', '30'), '_in_pieces')]
@@ -259,5 +329,6 @@ FAR_SCENES = [with_server(scene, '--dice', '31', *options, more=more)
               for scene in (pictures_stand_straight, a_half_typed_line_is_kept) for options, more in WIRES]
 
 SCENES = [ctrl_c_cancels_the_line_and_not_the_game, ctrl_c_after_a_stop, tab_completes_the_players_names,
-          a_small_terminal, a_word_where_rlwrap_is_missing, what_can_not_be_is_refused_before_a_password_is_typed,
-          a_log, *FAR_SCENES]
+          tab_completes_the_words, a_small_terminal, a_word_where_rlwrap_is_missing,
+          what_can_not_be_is_refused_before_a_password_is_typed, the_question_ends, a_stop_does_not_show_the_password,
+          the_password_is_in_no_list_of_processes, fibs_play_without_a_terminal, a_log, *FAR_SCENES]

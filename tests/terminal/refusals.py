@@ -59,7 +59,7 @@ def a_wrong_password_while_others_come_and_go(ann, server):
         bob.send('bye')
         bob.close()
         time.sleep(0.3)
-    same('it is said, and once', [row for row in ann.lines() if read(row)[0] == 'login'] != [], True)
+    same('it is said, and once', len([row for row in ann.lines() if read(row)[0] == 'login']), 1)
 
 
 # each line of the server comes a while after the one before it
@@ -86,9 +86,7 @@ def a_right_password(name, *options):
 SCENES += [a_right_password('and_a_prompt_in_pieces', '--portions', '4', '--pause', '5', '--delay', '150'),
            a_right_password('and_a_prompt_in_slow_pieces', '--portions', '4', '--pause', '30', '--delay', '60'),
            # by this seed the command comes last
-           a_right_password('and_a_telnet_command_behind_the_prompt', '--telnet', '--seed', '3', *SLOW),
-           *(a_right_password('and_a_greeting_of_%d_bytes' % size, '--greeting', str(size), *SLOW)
-             for size in (1025, 1027, 1030))]
+           a_right_password('and_a_telnet_command_behind_the_prompt', '--telnet', '--seed', '3', *SLOW)]
 
 
 # -- no connection ---------------------------------------------------------------------------------------------------

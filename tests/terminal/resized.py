@@ -6,16 +6,12 @@ import re
 import signal
 import tempfile
 
-from escapes import BOARD, WELCOME
+from escapes import BOARD
 from partners import NARROW, board_of
-from people import PASSWORD, PROGRAM, Terminal, same
-from props.server import OWN_INFO, Server
-from props.terminals import PLAY, RLWRAP
+from people import DRAWN, PASSWORD, Listener, begun, greeted, has_received, leaves, same
+from terminals import RLWRAP
 
 SCENES = []
-
-# What rlwrap draws around a line that is edited.
-EDITED = re.compile(r'\x1b\[[0-9;?]*[a-zA-Z]|\x1b[=>]|\r')
 
 # The picture of the board with the dice 4 and 3, on a window that has room for it.
 EDGE = ' +13-14-15-16-17-18-+---+19-20-21-22-23-24-+   X bob'
@@ -28,19 +24,9 @@ def scene(does):
     return does
 
 
-def plays(server, columns=80, options=(), listed=(), **more):
+def plays(server, columns=80, kind='xterm', options=(), listed=(), **more):
     """Ann, who has logged in by fibs-play, and was greeted; with the greeting come lines that list players."""
-    words = [PLAY, *options, '127.0.0.1', str(server.port), 'ann']
-    more = {'FIBS': PROGRAM, 'TERM': 'xterm', 'NO_COLOR': '1', 'FIBS_QUIET': '1', 'LC_ALL': 'C', **more}
-    ann = Terminal(words, columns, **more)
-    ann.sees('password: ')
-    ann.type(PASSWORD)
-    server.accept()
-    same('the login', server.line(), 'login fibs_client 1008 ann ' + PASSWORD)
-    server.send(WELCOME, OWN_INFO % 'ann', *listed)
-    ann.sees('You are ann')
-    same('the first commands', [server.line(), server.line()], ['set boardstyle 3', 'board'])
-    return ann
+    return greeted(server, begun(server, kind, options, columns=columns, NO_COLOR='1', **more), listed)
 
 
 def shown_of(ann, server, board):
@@ -50,7 +36,7 @@ def shown_of(ann, server, board):
     server.send(board, '12 x seen')
     begun = ann.at
     ann.sees('x says: seen')
-    return EDITED.sub('', bytes(ann.seen[begun:ann.at]).decode('latin-1')).split('\n')
+    return DRAWN.sub('', bytes(ann.seen[begun:ann.at]).decode('latin-1')).split('\n')
 
 
 @scene
@@ -59,23 +45,19 @@ def a_window_of_another_width_is_told_before_the_next_line():
     if not RLWRAP:
         return
     board = board_of(1, own=(4, 3))
-    server = Server()
-    with tempfile.TemporaryDirectory() as home:
-        ann = plays(server, HOME=home, RLWRAP_HOME=home)
-        for columns in 80, 40, 60, 10, 100:
-            ann.resizes(columns)
-            rows = shown_of(ann, server, board)
-            if columns == 40:
-                at = rows.index(NARROW[0])
-                same('the picture', rows[at:at + len(NARROW)], NARROW)
-            else:
-                at = next(at for at, row in enumerate(rows) if '13-14-15-16' in row)
-                same('the dice at %d' % columns, rows[at + 8][:59 if columns == 60 else 99], DICE)
-                same('the edge at %d' % columns, rows[at], EDGE)
-        ann.type('quit')
-        ann.ends(0)
-        same('nothing else was sent', server.line(), None)
-        ann.close()
+    server = Listener()
+    ann = plays(server)
+    for columns in 80, 40, 60, 10, 100:
+        ann.resizes(columns)
+        rows = shown_of(ann, server, board)
+        if columns == 40:
+            at = rows.index(NARROW[0])
+            same('the picture', rows[at:at + len(NARROW)], NARROW)
+        else:
+            at = next(at for at, row in enumerate(rows) if '13-14-15-16' in row)
+            same('the dice at %d' % columns, rows[at + 8][:59 if columns == 60 else 99], DICE)
+            same('the edge at %d' % columns, rows[at], EDGE)
+    leaves(ann, server, *['board'] * 5)
     server.close()
 
 
@@ -100,39 +82,47 @@ def title_left(seen):
     return title
 
 
+# A terminal on which lines are edited, if rlwrap is installed; one that tells no width; and one without a title.
+TERMINALS = [(80, 'xterm')] * bool(RLWRAP) + [(0, 'xterm'), (80, 'dumb')]
+
+
 @scene
 def the_title_comes_back_however_the_program_ends():
-    """With rlwrap and without it, as on a terminal that tells no width: by a typed word, by a key, or by a signal."""
-    for columns in [80] * bool(RLWRAP) + [0]:
+    """With rlwrap and without it, and if there is no title: by a typed word, by a key, or by a signal; nothing of it
+    reaches the server."""
+    server = Listener()
+    for columns, kind in TERMINALS:
+        has_title, is_edited = kind == 'xterm', (columns, kind) == (80, 'xterm')
         for given, status in ENDINGS:
-            if columns and given in (b'\x03', signal.SIGINT, signal.SIGHUP):
+            if is_edited and given in (b'\x03', signal.SIGINT, signal.SIGHUP):
                 # there a line is cancelled, and the last shows rlwrap that the terminal is gone
                 continue
-            server = Server()
-            with tempfile.TemporaryDirectory() as home:
-                ann = plays(server, columns, HOME=home, RLWRAP_HOME=home, FIBS_QUIET='')
-                server.send(BOARD)
-                ann.sees('Your turn: roll, or double.')
-                same('the title', title_left(bytes(ann.seen)), b'fibs: your turn, 0-0 of 3')
-                if isinstance(given, bytes):
-                    ann.type_bytes(given)
-                else:
-                    os.kill(ann.job, given)
-                kind, ended = ann.report()
-                what = '%r at %d columns' % (given, columns)
-                same('the ending by ' + what, (kind, columns or int(ended)), ('ended', columns or status))
-                same('the title after ' + what, title_left(bytes(ann.seen)), OLD)
-                same('echo after ' + what, ann.echoes(), True)
-                ann.close()
-            server.close()
+            ann = plays(server, columns, kind, FIBS_QUIET='')
+            server.send(BOARD)
+            ann.sees('Your turn: roll, or double.')
+            same('the title', title_left(bytes(ann.seen)), b'fibs: your turn, 0-0 of 3' if has_title else OLD)
+            if isinstance(given, bytes):
+                ann.type_bytes(given)
+            else:
+                os.kill(ann.job, given)
+            ended, number = ann.report()
+            what = '%r at %d columns of %s' % (given, columns, kind)
+            same('the ending by ' + what, (ended, is_edited or int(number)), ('ended', is_edited or status))
+            same('the title after ' + what, title_left(bytes(ann.seen)), OLD)
+            same('echo after ' + what, ann.echoes(), True)
+            same('the password is shown', PASSWORD in ann.screen(), False)
+            has_received(server)
+            ann.close()
+    server.close()
 
 
 @scene
 def a_shell_above_the_program_stops_with_it():
-    """Without rlwrap, on a terminal with a title: Ctrl-Z and fg, and at last the terminal goes: nothing is left."""
-    server = Server()
-    with tempfile.TemporaryDirectory() as home:
-        ann = plays(server, 0, HOME=home, FIBS_QUIET='')
+    """Without rlwrap, on a terminal with a title and on one without: Ctrl-Z and fg, and at last the terminal goes:
+    nothing is left."""
+    server = Listener()
+    for columns, kind in (0, 'xterm'), (80, 'dumb'):
+        ann = plays(server, columns, kind, FIBS_QUIET='')
         for number in range(2):
             ann.type_bytes(b'\x1a')
             ann.is_stopped()
@@ -141,11 +131,11 @@ def a_shell_above_the_program_stops_with_it():
             ann.to_the_foreground()
             ann.sees('while you were away %d' % number)
         ann.type('say back')
-        same('what was sent', server.line(), 'say back')
+        ann.sees('sent say back')
         ann.hangs_up()
         # the signal ends the program; the end of what is typed would too, with status 0
         same('the ending', ann.report() in (['ended', '129'], ['ended', '0']), True)
-        same('the end of the connection', server.line(), None)
+        has_received(server, 'say back')
         ann.close()
     server.close()
 
@@ -162,12 +152,12 @@ def tab_knows_each_player_who_was_listed():
     if not RLWRAP:
         return
     for logs in False, True:
-        server = Server()
-        with tempfile.TemporaryDirectory() as home:
+        server = Listener()
+        with tempfile.TemporaryDirectory() as room:
+            log = pathlib.Path(room, 'log')
             if logs:
-                pathlib.Path(home, 'log').write_text('7 yorick yorick logs in.\n')
-            ann = plays(server, options=['--log', home + '/log'] if logs else [], HOME=home, RLWRAP_HOME=home,
-                        listed=listing(['yolanda', 'ulrich']))
+                log.write_text('7 yorick yorick logs in.\n')
+            ann = plays(server, options=['--log', str(log)] if logs else [], listed=listing(['yolanda', 'ulrich']))
             ann.type('quiet')
             ann.sees('not who comes and goes')
             names = ['player%03d' % at for at in range(300)] + ['walter', 'zebedee']
@@ -182,6 +172,6 @@ def tab_knows_each_player_who_was_listed():
             same('a name that is not', server.line(), 'tell wallace hello')
             ann.type('quit')
             ann.ends(0)
-            same('a log that is left', os.path.exists(home + '/log'), logs)
+            same('a log that is left', log.exists(), logs)
             ann.close()
         server.close()

@@ -2,8 +2,7 @@
 
 import tempfile
 
-from escapes import greeted, with_server
-from people import Client, Table, same
+from people import Client, Table, greeted, same, with_listener
 
 SCENES = []
 
@@ -89,7 +88,7 @@ def watched(server, **more):
 
 
 @scene
-@with_server
+@with_listener
 def a_watched_board_is_drawn_with_both_names(server):
     """Whole if a checker has moved, if the players are others or if she asks; else a row. The hint comes once."""
     ann = watched(server)
@@ -117,7 +116,7 @@ def a_watched_board_is_drawn_with_both_names(server):
 
 
 @scene
-@with_server
+@with_listener
 def watching_ends(server):
     """By `unwatch`, when a match ends or is left, and when a match of her own begins: the hint comes no more."""
     ann = watched(server)
@@ -141,7 +140,7 @@ def watching_ends(server):
 
 
 @scene
-@with_server
+@with_listener
 def a_board_that_can_not_be_drawn_is_a_line(server):
     """Sixteen checkers of a side: the line is shown as the server sent it, and nothing else."""
     ann = watched(server)
@@ -151,7 +150,7 @@ def a_board_that_can_not_be_drawn_is_a_line(server):
 
 
 @scene
-@with_server
+@with_listener
 def watched_boards_are_told_in_words(server):
     """With FIBS_WORDS; broken at spaces if the terminal is narrow."""
     ann = watched(server, FIBS_WORDS='1')
@@ -161,7 +160,7 @@ def watched_boards_are_told_in_words(server):
 
 
 @scene
-@with_server
+@with_listener
 def watched_boards_are_told_in_40_columns(server):
     """No row of the board is wider, and all words come."""
     ann = watched(server, FIBS_WORDS='1', columns=40, COLUMNS='40')
@@ -172,7 +171,7 @@ def watched_boards_are_told_in_40_columns(server):
 
 
 @scene
-@with_server
+@with_listener
 def a_narrow_terminal_has_the_words_of_a_watched_picture_below(server):
     """40 columns: every place, and then the words of both players."""
     ann = watched(server, columns=40, COLUMNS='40')
@@ -185,7 +184,7 @@ def a_narrow_terminal_has_the_words_of_a_watched_picture_below(server):
 
 
 @scene
-@with_server
+@with_listener
 def a_watched_picture_has_the_letters_of_ones_own(server):
     """Those of the checkers, and those before the names of the players, of the turn and of the cube."""
     with tempfile.NamedTemporaryFile('w') as settings:
@@ -209,7 +208,7 @@ def marked(server, **more):
 
 
 @scene
-@with_server
+@with_listener
 def a_terminal_with_colours_has_bold_letters(server):
     """The checkers and the dice of the one who is watched."""
     seen = marked(server, TERM='xterm', NO_COLOR=None)
@@ -217,19 +216,19 @@ def a_terminal_with_colours_has_bold_letters(server):
 
 
 @scene
-@with_server
+@with_listener
 def without_colours_nothing_is_marked(server):
     same('escapes', b'\x1b' in marked(server, TERM='xterm', NO_COLOR='1'), False)
 
 
 @scene
-@with_server
+@with_listener
 def a_dumb_terminal_is_sent_no_marks(server):
     same('escapes', b'\x1b' in marked(server, TERM='dumb'), False)
 
 
 @scene
-@with_server
+@with_listener
 def watched_players_may_have_any_names(server):
     """The longest names, which begin alike; names that look like rows; every row fits."""
     ann = watched(server)

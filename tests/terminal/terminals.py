@@ -13,7 +13,7 @@ import threading
 import time
 
 from props.checks import PATIENCE, Failed, same
-from props.shell import END, signal_job
+from shell import END, signal_job
 
 # The shell is a program.
 SHELL = os.path.join(os.path.dirname(os.path.abspath(__file__)), 'shell.py')
@@ -24,6 +24,13 @@ RLWRAP = shutil.which('rlwrap')
 
 # Shells that may run it.
 SHELLS = [words for words in ([], ['dash'], ['bash', '--posix'], ['bash']) if not words or shutil.which(words[0])]
+
+# Terminals on which fibs-play edits no lines, and, if rlwrap is installed, one on which it does.
+KINDS = ['dumb'] + (['xterm'] if RLWRAP else [])
+
+# A command with its input from a file, or its output to one.
+FROM_FILE = ['sh', '-c', 'file=$1; shift; exec "$@" < "$file"', 'sh']
+TO_FILE = ['sh', '-c', 'file=$1; shift; exec "$@" > "$file"', 'sh']
 
 # No other process knows it.
 PASSWORD = 'hunter' + os.urandom(4).hex()

@@ -1,0 +1,94 @@
+"""A login: the password that the program itself asks for, and what a server says before it has read the login."""
+
+import time
+
+from people import LOGIN, PASSWORD, PROGRAM, WELCOME, Person, Reader, greeted, leaves, logs_in, same, with_listener
+from play import NO_PASSWORD
+
+SCENES = []
+
+
+def scene(does):
+    """A decorator: the scene is one of those that are played, at a listener of its own."""
+    SCENES.append(with_listener(does))
+    return SCENES[-1]
+
+
+def asked(server, name='ann', password=PASSWORD):
+    """One whom the program asks for the password, at a terminal that shows it."""
+    ann = Reader([PROGRAM, 'connect', '127.0.0.1', str(server.port), name])
+    ann.sees('password: ')
+    ann.type(password)
+    return ann
+
+
+@scene
+def the_program_itself_asks_for_the_password(server):
+    """If what is typed comes from a terminal. No row but these comes before the server speaks."""
+    ann = asked(server)
+    ann.sees('connected to', '\n')
+    same('the screen', ann.screen(), 'password: %s\nconnected to 127.0.0.1:%d\n' % (PASSWORD, server.port))
+    leaves(greeted(server, ann), server)
+
+
+@scene
+def names_and_passwords_that_are_not_valid(server):
+    """A person is told in words why he can't log in so; a program reads the number and the name."""
+    for name, password, words in [
+            ('ann', '', NO_PASSWORD), ('ann', 'a b', NO_PASSWORD), ('ann', '\xfc', NO_PASSWORD),
+            ('ann', 'a' * 65, 'A password has at most 64 characters.'),
+            ('a:b', 'secret', 'A name has 1 to 64 printable ASCII characters')]:
+        ann = asked(server, name, password)
+        ann.ends(3)
+        same('words for %r, %r' % (name, password), (words in ann.screen(), 'fault' in ann.screen()), (True, False))
+        ann.close()
+    server.is_alone()
+
+
+# How the login is asked for, in pieces: in two; with a telnet command in one piece with it and in the next; and behind
+# so many bytes that it ends about where a read of 1024 bytes does.
+PROMPTS = [[b'Hello.\r\nlog', b'in: '], [b'Hello.\r\nlogin:', b' '], [b'login: \xff\xf1'], [b'login: ', b'\xff\xf1'],
+           *([b'x' * count + b'\r\nlogin: '] for count in range(1014, 1024))]
+
+
+@scene
+def a_server_that_is_slow_to_log_in(server):
+    """It asks for the login that was sent, and the answer takes its time: nothing is wrong yet, however it asks."""
+    for pieces in PROMPTS:
+        ann = Person(server.port)
+        logs_in(server)
+        for piece in pieces:
+            time.sleep(0.1)
+            server.send_bytes(piece)
+        time.sleep(0.5)
+        server.send('', WELCOME)
+        ann.reads('Welcome, ann')
+        same('what is wrong after %r' % pieces[-1][-12:], [row for row in ann.lines() if 'Not logged in' in row], [])
+        ann.close()
+
+
+@scene
+def a_server_that_refuses_a_login(server):
+    """What it says of it is shown though nothing is typed, and so is that nobody is logged in; no decision goes out."""
+    ann = Person(server.port)
+    logs_in(server)
+    server.send_bytes(b'Welcome to a strict one.\r\nlogin: ')
+    ann.reads('strict one')
+    server.send_bytes(b'\r\n** User not known or wrong password.\r\nlogin: ')
+    ann.reads('** User not known or wrong password.')
+    ann.reads('Not logged in: wrong name or password?')
+    for line in '7 bob bob logs in.', '8 eve eve drops connection.', '12 bob hi':
+        time.sleep(0.5)
+        server.send(line)
+    for row in 'bob logs in.', 'eve drops connection.', 'bob says: hi':
+        ann.reads(row)
+    same('how often', len([row for row in ann.lines() if 'Not logged in' in row]), 1)
+    ann.type('roll')
+    ann.reads('[3 NotReady]')
+    ann.reads('Not logged in')
+    server.drop()
+    ann.reads('lost')
+    ann.type('quit')
+    ann.ends(0)
+    same('all that was received', server.received, [LOGIN])
+    ann.close()
