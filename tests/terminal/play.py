@@ -97,6 +97,16 @@ def interrupts(player):
     return termios.tcgetattr(player.fd)[6][termios.VINTR]
 
 
+def no_key_interrupts(player):
+    """Waits until fibs-play has gone on, and has taken this meaning from the key."""
+    end = time.monotonic() + PATIENCE
+    while interrupts(player) == b'\x03':
+        if time.monotonic() > end:
+            raise Failed('the key still interrupts')
+        time.sleep(0.02)
+    player.shown(0.3)
+
+
 @with_server
 def ctrl_c_after_a_stop(server):
     """Ctrl-Z and fg: the shell shows what is typed, and then the key cancels as before."""
@@ -105,7 +115,7 @@ def ctrl_c_after_a_stop(server):
     player.is_stopped()
     same('echo of the shell', player.echoes(), True)
     player.to_the_foreground()
-    player.shown(0.5)
+    no_key_interrupts(player)
     player.type_bytes(b'tell eve never')
     player.is_shown('tell eve never')
     player.type_bytes(b'\x03')
