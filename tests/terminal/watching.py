@@ -1,7 +1,5 @@
 """Scenes of one who watches: a board of others is drawn with both names, or told in words; nothing is decided on it."""
 
-import tempfile
-
 from people import Client, Table, greeted, same, with_listener
 
 SCENES = []
@@ -76,9 +74,9 @@ def typed(ann, server, word):
     return [row for row in rows if row not in (word, 'send that is all')]
 
 
-def watched(server, **more):
+def watched(server):
     """Ann watches bob, and no board has come."""
-    ann = greeted(server, **more)
+    ann = greeted(server)
     ann.type('watch bob')
     ann.reads('sent as it is: watch bob')
     same('what was sent', server.line(), 'watch bob')
@@ -137,94 +135,6 @@ def watching_ends(server):
     same('what was sent', server.line(), 'unwatch')
     same('asked to end', HINT in typed(ann, server, 'help'), False)
     ann.close()
-
-
-@scene
-@with_listener
-def a_board_that_can_not_be_drawn_is_a_line(server):
-    """Sixteen checkers of a side: the line is shown as the server sent it, and nothing else."""
-    ann = watched(server)
-    line = board().replace(':5:0:3:', ':6:0:3:')
-    same('the line', rows_to(ann, server, line), [line])
-    ann.close()
-
-
-@scene
-@with_listener
-def watched_boards_are_told_in_words(server):
-    """With FIBS_WORDS; broken at spaces if the terminal is narrow."""
-    ann = watched(server, FIBS_WORDS='1')
-    same('the board', rows_to(ann, server, board()), [*WORDS, HINT])
-    same('a row', rows_to(ann, server, board(dice=ROLLED)), ['bob rolls 3 and 1.'])
-    ann.close()
-
-
-@scene
-@with_listener
-def watched_boards_are_told_in_40_columns(server):
-    """No row of the board is wider, and all words come."""
-    ann = watched(server, FIBS_WORDS='1', columns=40, COLUMNS='40')
-    rows = rows_to(ann, server, board())
-    same('rows', [row for row in rows if len(row) > 40], [])
-    same('words', ' '.join(rows).split(), ' '.join([*WORDS, HINT]).split())
-    ann.close()
-
-
-@scene
-@with_listener
-def a_narrow_terminal_has_the_words_of_a_watched_picture_below(server):
-    """40 columns: every place, and then the words of both players."""
-    ann = watched(server, columns=40, COLUMNS='40')
-    rows = rows_to(ann, server, board())
-    same('every row fits', [row for row in rows if len(row) > 40], [])
-    same('the edge', rows[0], '13-14-15-16-17-18-+---19-20-21-22-23-24-')
-    same('below', rows[13:], ['X eve, score 1, off 0, pips 167, dice -', "match to 3, cube 1, free, O bob's turn",
-                              'O bob, score 0, off 0, pips 167, dice -', HINT])
-    ann.close()
-
-
-@scene
-@with_listener
-def a_watched_picture_has_the_letters_of_ones_own(server):
-    """Those of the checkers, and those before the names of the players, of the turn and of the cube."""
-    with tempfile.NamedTemporaryFile('w') as settings:
-        settings.write('letters @ o\n')
-        settings.flush()
-        ann = watched(server, FIBS_CONFIG=settings.name)
-        rows = rows_to(ann, server, board().replace(':1:1:1:0:1:', ':2:0:1:0:1:'))
-        same('letters', (rows[0][47:], rows[6][47:], rows[7][47:], rows[12][47:], rows[1][:20]),
-             ('o eve', "cube 2, o eve's", "@ bob's turn", '@ bob', ' | @           o    '))
-        ann.close()
-
-
-def marked(server, **more):
-    """What a terminal is sent for a watched board, as bytes."""
-    ann = watched(server, **more)
-    begins = len(ann.seen)
-    same('the board', rows_to(ann, server, board(dice=ROLLED))[:2], PICTURE[:2])
-    seen = bytes(ann.seen[begins:])
-    ann.close()
-    return seen
-
-
-@scene
-@with_listener
-def a_terminal_with_colours_has_bold_letters(server):
-    """The checkers and the dice of the one who is watched."""
-    seen = marked(server, TERM='xterm', NO_COLOR=None)
-    same('bold letters', (seen.count(b'\x1b[1mO\x1b[0m'), seen.count(b'\x1b[1m3\x1b[0m')), (15, 1))
-
-
-@scene
-@with_listener
-def without_colours_nothing_is_marked(server):
-    same('escapes', b'\x1b' in marked(server, TERM='xterm', NO_COLOR='1'), False)
-
-
-@scene
-@with_listener
-def a_dumb_terminal_is_sent_no_marks(server):
-    same('escapes', b'\x1b' in marked(server, TERM='dumb'), False)
 
 
 @scene

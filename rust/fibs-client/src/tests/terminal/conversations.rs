@@ -102,8 +102,7 @@ fn connections_come_and_go() {
 fn each_of_many_boards_is_drawn() {
     let board = String::from_utf8(TO_MOVE.to_vec()).expect("it is a text");
     let boards: Vec<String> = (0..20).map(|number| board.replace(":bob:", &format!(":bob{number}:"))).collect();
-    let steps: Vec<Step<'_>> =
-        boards.iter().flat_map(|board| [Step::Hears(board.as_bytes()), Step::Rests]).collect();
+    let steps: Vec<Step<'_>> = boards.iter().flat_map(|board| [Step::Hears(board.as_bytes()), Step::Rests]).collect();
     let text = shown(plain_settings(), &[Step::Hears(WELCOME), Step::Hears(SETTINGS)], &steps);
     let mut rows = text.lines().skip(4);
     assert_wanted(rows.clone().count() == 20 * 15, &text, "20 pictures with their hints");

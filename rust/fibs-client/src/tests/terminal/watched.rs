@@ -1,9 +1,12 @@
 //! Boards that the user watches: their pictures, and the same in words, which were made by hand.
 
+use super::lines::{SETTINGS, WELCOME};
+use super::seats::{Step, assert_wanted, colour_settings, plain_settings};
 use crate::fibs_fields::boards::Board;
 use crate::fibs_picture::draw_watched;
-use crate::fibs_position::{GameBoard, PositionFault, WatchedBoard};
 use crate::fibs_picture::in_words::tell_watched;
+use crate::fibs_position::{GameBoard, PositionFault, WatchedBoard};
+use crate::fibs_wording::environment::Settings;
 
 /// A board, the lines of its picture, and its rows in words.
 struct Watched {
@@ -211,4 +214,92 @@ fn a_watched_board_is_no_board_of_the_users_game() {
         assert_eq!(WatchedBoard::of(&board).is_some(), is_watched, "{line}");
         assert_eq!(GameBoard::of(&board).err(), fault, "{line}");
     }
+}
+
+/// Bob against eve, before bob's roll, and after it.
+const TO_ROLL: &str = "board:bob:eve:3:0:1:0:-2:0:0:0:0:5:0:3:0:0:0:-5:5:0:0:0:-3:0:-5:0:0:0:0:2:0:1:0:0:0:0:1:1:1:0:1:-1:0:25:0:0:0:0:0:0:0:0";
+
+const ROLLED: &str = "board:bob:eve:3:0:1:0:-2:0:0:0:0:5:0:3:0:0:0:-5:5:0:0:0:-3:0:-5:0:0:0:0:2:0:1:3:1:0:0:1:1:1:0:1:-1:0:25:0:0:0:0:0:0:0:0";
+
+/// The words of the first one, and what is said below a board that is watched.
+const TOLD: &str = "bob against eve.
+bob to roll.
+bob's dice none, eve's none.
+Score 0 to 1, match to 3.
+Cube 1, in the middle.
+bob goes down, from 24 to 1.
+bob, 167 pips: 2 on 24, 5 on 13, 3 on 8, 5 on 6, none off.
+eve, 167 pips: 2 on 1, 5 on 12, 3 on 17, 5 on 19, none off.
+Held against bob: 19, 17, 12, 1.
+";
+
+const HINT: &str = "You watch bob and eve: unwatch ends it.\n";
+
+/// What a terminal shows of boards that come one after another, if the user watches bob.
+fn seen(settings: Settings<'_>, boards: &[&str]) -> String {
+    let lines: Vec<String> = boards.iter().map(|board| format!("{board}\r\n")).collect();
+    let before = [
+        Step::Hears(WELCOME),
+        Step::Hears(SETTINGS),
+        Step::Types(b"watch bob"),
+        Step::Hears(b"You're now watching bob.\r\n"),
+        Step::Rests,
+    ];
+    let steps: Vec<Step<'_>> = lines.iter().flat_map(|line| [Step::Hears(line.as_bytes()), Step::Rests]).collect();
+    let all = super::seats::shown(settings, &before, &steps);
+    let begun = "board shows the game now, unwatch ends it.\n";
+    all.split_once(begun).expect("the user watches").1.to_string()
+}
+
+/// In words, if these are asked for: the board with its hint, and then the dice alone; broken on a narrow terminal.
+#[test]
+fn a_terminal_tells_watched_boards_in_words() {
+    let words = Settings { words: true, ..plain_settings() };
+    assert_eq!(seen(words, &[TO_ROLL, TO_ROLL, ROLLED]), format!("{TOLD}{HINT}bob rolls 3 and 1.\n"));
+    let narrow = seen(Settings { words: true, columns: 40, ..plain_settings() }, &[TO_ROLL]);
+    assert_wanted(narrow.lines().all(|row| row.len() <= 40), &narrow, "40 columns");
+    assert!(narrow.split_whitespace().eq(format!("{TOLD}{HINT}").split_whitespace()), "{narrow}");
+}
+
+/// Of a picture of 40 columns the words of both players are below it, and every place is there.
+#[test]
+fn a_narrow_terminal_has_the_words_of_a_watched_picture_below() {
+    let text = seen(Settings { columns: 40, ..plain_settings() }, &[TO_ROLL]);
+    let rows: Vec<&str> = text.lines().collect();
+    assert_wanted(rows.iter().all(|row| row.len() <= 40), &text, "40 columns");
+    assert_eq!(rows[0], "13-14-15-16-17-18-+---19-20-21-22-23-24-");
+    let below = [
+        "X eve, score 1, off 0, pips 167, dice -",
+        "match to 3, cube 1, free, O bob's turn",
+        "O bob, score 0, off 0, pips 167, dice -",
+        HINT.trim_end(),
+    ];
+    assert_eq!(rows[13..], below);
+}
+
+/// The user's own letters are those of the checkers, and stand before the names of the players, of the turn and of the
+/// cube.
+#[test]
+fn a_watched_picture_has_the_letters_of_ones_own() {
+    let board = TO_ROLL.replace(":1:1:1:0:1:", ":2:0:1:0:1:");
+    let text = seen(Settings { letters: Some([b'@', b'o']), ..plain_settings() }, &[&board]);
+    let rows: Vec<&str> = text.lines().collect();
+    let beside = [&rows[0][47..], &rows[6][47..], &rows[7][47..], &rows[12][47..], &rows[1][..20]];
+    assert_eq!(beside, ["o eve", "cube 2, o eve's", "@ bob's turn", "@ bob", " | @           o    "]);
+}
+
+/// The checkers and the dice of the one who is watched are bold, if the terminal has bold letters.
+#[test]
+fn what_is_of_the_watched_player_is_bold() {
+    let bold = seen(colour_settings(), &[ROLLED]);
+    let marks = (bold.matches("\x1b[1mO\x1b[0m").count(), bold.matches("\x1b[1m3\x1b[0m").count());
+    assert_wanted(marks == (15, 1), &bold, "15 checkers and a die");
+    assert!(!seen(plain_settings(), &[ROLLED]).contains('\x1b'));
+}
+
+/// Sixteen checkers of a side: the line is shown as the server sent it, and nothing else.
+#[test]
+fn a_watched_board_that_can_not_be_drawn_is_a_line() {
+    let line = TO_ROLL.replace(":5:0:3:", ":6:0:3:");
+    assert_eq!(seen(plain_settings(), &[&line]), format!("{line}\n"));
 }
