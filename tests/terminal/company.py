@@ -167,6 +167,7 @@ def a_move_is_looked_at_before_it_is_sent(table):
     ann.type('go')
     ann.reads('sent move 24-23 13-10')
     table.bob.sees('ann moves 24-23 13-10 .')
+    ann.reads("bob's turn.")
     ann.type('go')
     ann.reads('go sends the move that you tried on this board')
 

@@ -162,6 +162,7 @@ def the_game_so_far_is_listed(table):
     ann.type('move 8-5 6-5')
     table.bob.sees('ann moves 8-5 6-5 .')
     ann.reads('sent move')
+    ann.reads("bob's turn.")
     ann.type('moves')
     ann.reads('  1. You roll 3 and 1: 8-5 6-5')
     same('what it is', rows_after(ann, 'moves back', '.'), ['moves, or moves all.'])
