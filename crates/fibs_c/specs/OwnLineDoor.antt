@@ -19,8 +19,8 @@ pub record SendsOwn (c : ClientValue) (line : List ℕ) (wire wire' : WireRecord
   pub kept : status ≢ 0 → IsEmptied wire wire'
 
 -- and the client is as it was; what is wrong with the text of the line comes first
-abbrev pub IsOwnSent : Option PlainFault → List ℕ → Option ClientValue → Option ClientValue → WireRecord → WireRecord → ℕ
-    → Type 0
+abbrev pub IsOwnSent : Option PlainFault → List ℕ → Option ClientValue → Option ClientValue → WireRecord → WireRecord
+    → ℕ → Type 0
 IsOwnSent (Some fault) line old new wire wire' status =
     (status ≡ 100 + plain_fault_number fault) × (new ≡ old) × IsEmptied wire wire'
 IsOwnSent None line None new wire wire' status = (status ≡ 501) × (new ≡ None) × IsEmptied wire wire'
