@@ -31,9 +31,9 @@ impl Clock for Stopped {
     }
 }
 
-/// What happens at a seat.
+/// A cue of a scene: what happens at a seat.
 #[derive(Clone, Copy)]
-pub enum Step<'a> {
+pub enum Cue<'a> {
     /// The server sends a line.
     Hears(&'a [u8]),
     /// The user types a line.
@@ -67,19 +67,19 @@ pub fn narrow_settings() -> Settings<'static> {
 
 /// A client, and the players that it knows.
 #[derive(Drop)]
-struct Seat {
+struct TestSeat {
     client: Client,
     directory: Directory,
 }
 
-impl Seat {
+impl TestSeat {
     /// The seat of a user who is connected.
-    fn new(rt: &(impl Abort + AllocGlobal)) -> Seat {
+    fn new(rt: &(impl Abort + AllocGlobal)) -> TestSeat {
         let login = Login::new(b"ann", b"secret").expect(rt, "it is a login");
         let mut client = Client::new(login);
         let _login = client.open();
         let directory = Directory::new(rt.alloc());
-        Seat { client, directory }
+        TestSeat { client, directory }
     }
 
     /// Tells what the server says by a line.
@@ -124,26 +124,22 @@ impl Seat {
     }
 
     /// Takes a step.
-    fn take_step<F: Words>(&mut self, step: Step<'_>, front: &mut F) -> Result<(), FrontFault> {
+    fn take_step<F: Words>(&mut self, step: Cue<'_>, front: &mut F) -> Result<(), FrontFault> {
         match step {
-            Step::Hears(line) => self.hear(line, front),
-            Step::Types(line) => self.take_line(line, front),
-            Step::Rests => front.rest(&self.client, &self.directory),
-            Step::Opens => {
+            Cue::Hears(line) => self.hear(line, front),
+            Cue::Types(line) => self.take_line(line, front),
+            Cue::Rests => front.rest(&self.client, &self.directory),
+            Cue::Opens => {
                 let _login = self.client.open();
                 front.tell(&Said::Opened)
             }
-            Step::Fails => front.tell(&Said::NoConnection(ErrorKind::ConnectionRefused)),
-            Step::Loses => front.tell(&Said::Lost(&self.client.lose())),
+            Cue::Fails => front.tell(&Said::NoConnection(ErrorKind::ConnectionRefused)),
+            Cue::Loses => front.tell(&Said::Lost(&self.client.lose())),
         }
     }
 
     /// Takes steps one after another.
-    fn take_steps<F: Words>(
-        &mut self,
-        steps: &[Step<'_>],
-        front: &mut F,
-    ) -> Result<(), FrontFault> {
+    fn take_steps<F: Words>(&mut self, steps: &[Cue<'_>], front: &mut F) -> Result<(), FrontFault> {
         for step in steps {
             self.take_step(*step, front)?;
         }
@@ -206,9 +202,9 @@ fn note<F: Front>(
 pub fn show_on<W: Write + Drop>(
     rt: &(impl Abort + AllocGlobal),
     settings: Settings<'_>,
-    steps: &[Step<'_>],
+    steps: &[Cue<'_>],
     out: W,
 ) -> Result<(), FrontFault> {
     let mut terminal = Terminal::new(rt.alloc(), out, Stopped, settings);
-    Seat::new(rt).take_steps(steps, &mut terminal)
+    TestSeat::new(rt).take_steps(steps, &mut terminal)
 }

@@ -47,7 +47,7 @@ pub fn is_made_of(bytes: &[u8], parts: &[&[u8]]) -> bool {
 
 /// A turn after which the connection goes on. What the server sends is in parts.
 #[derive(Clone, Copy)]
-pub enum Step<'a> {
+pub enum TalkCue<'a> {
     /// The server sends this.
     Hears(&'a [&'a [u8]]),
     /// A line is typed, and then the server sends this.
@@ -57,7 +57,7 @@ pub enum Step<'a> {
 /// A turn: what is typed, what the server sends, in parts, what follows that, how many bytes the stream takes, and how
 /// the turn ends.
 #[derive(Clone, Copy)]
-pub struct Turn<'a> {
+pub struct ScriptedTurn<'a> {
     pub typed: Option<&'a [u8]>,
     pub heard: &'a [&'a [u8]],
     pub after: After,
@@ -68,7 +68,7 @@ pub struct Turn<'a> {
 /// A client on one connection, the players that it knows, and what it has sent and printed. A stream gives it at most
 /// `most` bytes at once.
 #[derive(Drop)]
-pub struct Seat {
+pub struct TestSeat {
     pub client: Client,
     pub directory: Directory,
     pub sent: Text,
@@ -76,12 +76,12 @@ pub struct Seat {
     most: usize,
 }
 
-impl Seat {
+impl TestSeat {
     /// A client that has opened a connection.
-    pub fn open(rt: &(impl Abort + AllocGlobal), most: usize) -> Seat
+    pub fn open(rt: &(impl Abort + AllocGlobal), most: usize) -> TestSeat
         ensures { FitsStream result.client true }
     {
-        Seat {
+        TestSeat {
             client: opened(rt),
             directory: Directory::new(rt.alloc()),
             sent: Text::new(),
@@ -127,7 +127,7 @@ impl Seat {
     }
 
     /// Takes a turn. It notes what is sent and printed.
-    fn take_turn(&mut self, rt: &impl Abort, turn: &Turn<'_>)
+    fn take_turn(&mut self, rt: &impl Abort, turn: &ScriptedTurn<'_>)
         requires { FitsStream self.old.client true }
         ensures { turn.now.kind ≡ Kind.Quiet → FitsStream self.new.client true }
     {
@@ -138,15 +138,15 @@ impl Seat {
     }
 
     /// Takes a step. A read that comes after what the server sends fails so.
-    pub fn take(&mut self, rt: &impl Abort, step: Step<'_>, after: After)
+    pub fn take(&mut self, rt: &impl Abort, step: TalkCue<'_>, after: After)
         requires { FitsStream self.old.client true }
         ensures { FitsStream self.new.client true }
     {
         let (typed, heard) = match step {
-            Step::Hears(parts) => (None, parts),
-            Step::Types(typed, parts) => (Some(typed), parts),
+            TalkCue::Hears(parts) => (None, parts),
+            TalkCue::Types(typed, parts) => (Some(typed), parts),
         };
-        let turn = Turn {
+        let turn = ScriptedTurn {
             typed,
             heard,
             after,

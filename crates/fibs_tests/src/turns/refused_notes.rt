@@ -2,7 +2,7 @@
 ghost use Rattle.std.specs.Prelude.{true};
 ghost use Rattle.fibs_connect.specs.Turns.Turn.{FitsStream};
 
-use super::connected::{Seat, Step, is_made_of};
+use super::connected::{TalkCue, TestSeat, is_made_of};
 use fibs_session::Directory;
 use fibs_test_tools::pipe::QUIET;
 use fibs_test_tools::text::Text;
@@ -14,49 +14,49 @@ use std::test::Fail;
 const REFUSED: &[u8] = b"directory 1 Memory\n";
 
 /// A step, and what is printed in it.
-type Row = (Step<'static>, &'static [u8]);
+type Row = (TalkCue<'static>, &'static [u8]);
 
 /// What the server sends, and a decision that is typed then.
 static TAKEN: [Row; 9] = [
     (
-        Step::Hears(&[b"1 ann 1041253132 localhost\r\n"]),
+        TalkCue::Hears(&[b"1 ann 1041253132 localhost\r\n"]),
         b"message 1 ann 1041253132 localhost\n",
     ),
     (
-        Step::Hears(&[
+        TalkCue::Hears(&[
             b"5 someplayer mgnu_advanced - 0 0 1912.15 827 8 1040515752 192.168.143.5 3DFiBs -\r\n",
         ]),
         b"message 5 someplayer mgnu_advanced - 0 0 1912.15 827 8 1040515752 192.168.143.5 3DFiBs -\n",
     ),
     (
-        Step::Hears(&[b"5 bob - - 1 0 1500 0 3 1040515752 host - -\r\n"]),
+        TalkCue::Hears(&[b"5 bob - - 1 0 1500 0 3 1040515752 host - -\r\n"]),
         b"message 5 bob - - 1 0 1500 0 3 1040515752 host - -\n",
     ),
     (
-        Step::Hears(&[b"5 bob someplayer - 1 0 1512.34 5 0 1040515752 host - -\r\n"]),
+        TalkCue::Hears(&[b"5 bob someplayer - 1 0 1512.34 5 0 1040515752 host - -\r\n"]),
         b"message 5 bob someplayer - 1 0 1512.34 5 0 1040515752 host - -\n",
     ),
     (
-        Step::Hears(&[b"8 someplayer someplayer logs out.\r\n"]),
+        TalkCue::Hears(&[b"8 someplayer someplayer logs out.\r\n"]),
         b"message 8 someplayer someplayer logs out.\n",
     ),
     (
-        Step::Hears(&[b"5 someplayer - - 1 0 1912.15 827 8 1040515752 host - -\r\n"]),
+        TalkCue::Hears(&[b"5 someplayer - - 1 0 1912.15 827 8 1040515752 host - -\r\n"]),
         b"message 5 someplayer - - 1 0 1912.15 827 8 1040515752 host - -\n",
     ),
     (
-        Step::Hears(&[b"2 ann 1 1 0 0 0 0 1 1 10 0 1 0 1 1500.00 0 0 0 0 0 UTC\r\n"]),
+        TalkCue::Hears(&[b"2 ann 1 1 0 0 0 0 1 1 10 0 1 0 1 1500.00 0 0 0 0 0 UTC\r\n"]),
         b"message 2 ann 1 1 0 0 0 0 1 1 10 0 1 0 1 1500.00 0 0 0 0 0 UTC\n",
     ),
     (
-        Step::Hears(&[
+        TalkCue::Hears(&[
             b"board:You:bob:3:0:1:0:-2:0:0:0:0:5:0:3:0:0:0:-5:5:0:0:0:-3:0:-5:0:0:0:0:2:0:\
         1:0:0:0:0:1:1:1:0:1:-1:0:25:0:0:0:0:0:0:0:0\r\n",
         ]),
         b"board:You:bob:3:0:1:0:-2:0:0:0:0:5:0:3:0:0:0:-5:5:0:0:0:-3:0:-5:0:0:0:0:2:0:\
         1:0:0:0:0:1:1:1:0:1:-1:0:25:0:0:0:0:0:0:0:0\nphase RollOrDouble\n",
     ),
-    (Step::Types(b"roll", &[]), b"sent roll\n"),
+    (TalkCue::Types(b"roll", &[]), b"sent roll\n"),
 ];
 
 /// What is known of each player.
@@ -70,10 +70,10 @@ fn players_of(alloc: Global, directory: &Directory) -> Result<Text, AllocError> 
 }
 
 /// A seat that has taken these steps.
-fn seat_after(rt: &(impl Abort + AllocGlobal), rows: &[Row]) -> Seat
+fn seat_after(rt: &(impl Abort + AllocGlobal), rows: &[Row]) -> TestSeat
     ensures { FitsStream result.client true }
 {
-    let mut seat = Seat::open(rt, 7);
+    let mut seat = TestSeat::open(rt, 7);
     for row in rows {
         seat.take(rt, row.0, QUIET);
     }
@@ -83,8 +83,8 @@ fn seat_after(rt: &(impl Abort + AllocGlobal), rows: &[Row]) -> Seat
 /// Both seats take a step. Whether they print what they should, and have sent the same and know the same players then.
 fn are_alike(
     rt: &(impl Abort + AllocGlobal),
-    seat: &mut Seat,
-    twin: &mut Seat,
+    seat: &mut TestSeat,
+    twin: &mut TestSeat,
     row: &Row,
 ) -> Result<bool, AllocError>
     requires seat { FitsStream seat.old.client true }
@@ -100,7 +100,7 @@ fn are_alike(
 }
 
 /// A seat takes a step. Whether it prints what it should.
-fn prints(rt: &impl Abort, seat: &mut Seat, row: &Row) -> bool
+fn prints(rt: &impl Abort, seat: &mut TestSeat, row: &Row) -> bool
     requires { FitsStream seat.old.client true }
     ensures { FitsStream seat.new.client true }
 {
@@ -112,8 +112,8 @@ fn prints(rt: &impl Abort, seat: &mut Seat, row: &Row) -> bool
 /// Both seats take these steps: they print and send the same, and know the same players after each.
 fn assert_alike(
     rt: &(impl Abort + AllocGlobal),
-    seat: &mut Seat,
-    twin: &mut Seat,
+    seat: &mut TestSeat,
+    twin: &mut TestSeat,
     rows: &[Row],
 ) -> Result<(), AllocError>
     requires seat { FitsStream seat.old.client true }
@@ -127,7 +127,7 @@ fn assert_alike(
 }
 
 /// A seat takes steps up to one in which a note is refused. The turn says so after the line.
-fn refused_at(rt: &impl Abort, seat: &mut Seat, rows: &[Row]) -> Option<usize>
+fn refused_at(rt: &impl Abort, seat: &mut TestSeat, rows: &[Row]) -> Option<usize>
     requires { FitsStream seat.old.client true }
     ensures { FitsStream seat.new.client true }
 {
@@ -149,7 +149,7 @@ fn assert_in(rt: &impl Abort, is_right: bool, row: &Row) {
 /// After a note that is refused, a turn goes on as that of a client to which the line was not sent.
 fn assert_goes_on(
     rt: &(impl Abort + AllocGlobal),
-    seat: &mut Seat,
+    seat: &mut TestSeat,
     rows: &[Row],
 ) -> Result<(), AllocError>
     requires { FitsStream seat.old.client true }
@@ -166,7 +166,7 @@ fn assert_goes_on(
 /// A seat to which a step's note was refused takes the rest as one that has not taken the step.
 fn assert_skips(
     rt: &(impl Abort + AllocGlobal),
-    seat: &mut Seat,
+    seat: &mut TestSeat,
     rows: &[Row],
     at: usize,
 ) -> Result<(), AllocError>
@@ -179,7 +179,7 @@ fn assert_skips(
 
 #[test]
 fn turns_go_on_under_refused_memory(rt: HostRuntime) -> Result<(), Fail> {
-    let mut seat = Seat::open(&rt, 7);
+    let mut seat = TestSeat::open(&rt, 7);
     assert_goes_on(&rt, &mut seat, &TAKEN)?;
     assert!(rt; seat.sent.ends_with(b"\r\nroll\r\n"));
     Ok(())

@@ -1,7 +1,7 @@
 //! Texts, boards and typed lines in any order, cut anywhere: each row fits, and the conversation goes on.
 
 use super::lines::{FIRST_BOARD, MOVED, SETTINGS, TO_MOVE, TO_ROLL, WELCOME};
-use super::seats::{Step, assert_wanted, plain_settings, shown};
+use super::seats::{Cue, assert_wanted, plain_settings, shown};
 use crate::rattle::alloc::AllocError;
 use crate::rattle::may::*;
 
@@ -18,73 +18,73 @@ const OVER: &[u8] =
     b"board:You:bob:3:0:2:0:-2:0:0:0:0:5:0:3:0:0:0:-5:5:0:0:0:-3:0:-5:0:0:0:0:2:0:0:0:0:0:0:1:1:1:0:1:-1:0:25:0:0:0:0:2:0:0:0\r\n";
 
 /// What may happen.
-static EVENTS: [Step<'static>; 64] = [
-    Step::Rests,
-    Step::Rests,
-    Step::Rests,
-    Step::Rests,
-    Step::Rests,
-    Step::Rests,
-    Step::Hears(TO_ROLL),
-    Step::Hears(TO_ROLL),
-    Step::Hears(TO_MOVE),
-    Step::Hears(TO_MOVE),
-    Step::Hears(MOVED),
-    Step::Hears(MOVED),
-    Step::Hears(DOUBLED),
-    Step::Hears(OVER),
-    Step::Types(b"roll"),
-    Step::Types(b"roll"),
-    Step::Types(b"double"),
-    Step::Types(b"move 24-22 24-18"),
-    Step::Types(b"resign g"),
-    Step::Types(b"accept"),
-    Step::Types(b"reject"),
-    Step::Types(b"board"),
-    Step::Types(b"help"),
-    Step::Types(b"send roll"),
-    Step::Types(b"send accept"),
-    Step::Types(b"leave"),
-    Step::Types(b"bye"),
-    Step::Hears(b"bob rejects. The game continues.\r\n"),
-    Step::Hears(b"bob accepts the double. The cube shows 2.\r\n"),
-    Step::Hears(b"bob accepts and wins 2 points.\r\n"),
-    Step::Hears(b"bob gives up. You win 1 point.\r\n"),
-    Step::Hears(b"bob wins the game and gets 1 point. Sorry.\r\n"),
-    Step::Hears(b"bob wins the 3 point match 3-0 .\r\n"),
-    Step::Hears(b"bob doubles. Type 'accept' or 'reject'.\r\n"),
-    Step::Hears(b"bob wants to resign. You will win 1 point.\r\n"),
-    Step::Hears(b"bob has joined you. Your running match was loaded.\r\n"),
-    Step::Hears(b"bob wants to resume a saved match with you.\r\n"),
-    Step::Hears(b"eve wants to play a 3 point match with you.\r\n"),
-    Step::Hears(b"bob rolls 3 and 1.\r\n"),
-    Step::Hears(b"bob moves 8-5 6-5 .\r\n"),
-    Step::Hears(b"bob drops connection. The game was saved.\r\n"),
-    Step::Hears(b"** Please wait for bob to join too.\r\n"),
-    Step::Hears(b"** Player bob has left the game. The game was saved.\r\n"),
-    Step::Hears(
+static EVENTS: [Cue<'static>; 64] = [
+    Cue::Rests,
+    Cue::Rests,
+    Cue::Rests,
+    Cue::Rests,
+    Cue::Rests,
+    Cue::Rests,
+    Cue::Hears(TO_ROLL),
+    Cue::Hears(TO_ROLL),
+    Cue::Hears(TO_MOVE),
+    Cue::Hears(TO_MOVE),
+    Cue::Hears(MOVED),
+    Cue::Hears(MOVED),
+    Cue::Hears(DOUBLED),
+    Cue::Hears(OVER),
+    Cue::Types(b"roll"),
+    Cue::Types(b"roll"),
+    Cue::Types(b"double"),
+    Cue::Types(b"move 24-22 24-18"),
+    Cue::Types(b"resign g"),
+    Cue::Types(b"accept"),
+    Cue::Types(b"reject"),
+    Cue::Types(b"board"),
+    Cue::Types(b"help"),
+    Cue::Types(b"send roll"),
+    Cue::Types(b"send accept"),
+    Cue::Types(b"leave"),
+    Cue::Types(b"bye"),
+    Cue::Hears(b"bob rejects. The game continues.\r\n"),
+    Cue::Hears(b"bob accepts the double. The cube shows 2.\r\n"),
+    Cue::Hears(b"bob accepts and wins 2 points.\r\n"),
+    Cue::Hears(b"bob gives up. You win 1 point.\r\n"),
+    Cue::Hears(b"bob wins the game and gets 1 point. Sorry.\r\n"),
+    Cue::Hears(b"bob wins the 3 point match 3-0 .\r\n"),
+    Cue::Hears(b"bob doubles. Type 'accept' or 'reject'.\r\n"),
+    Cue::Hears(b"bob wants to resign. You will win 1 point.\r\n"),
+    Cue::Hears(b"bob has joined you. Your running match was loaded.\r\n"),
+    Cue::Hears(b"bob wants to resume a saved match with you.\r\n"),
+    Cue::Hears(b"eve wants to play a 3 point match with you.\r\n"),
+    Cue::Hears(b"bob rolls 3 and 1.\r\n"),
+    Cue::Hears(b"bob moves 8-5 6-5 .\r\n"),
+    Cue::Hears(b"bob drops connection. The game was saved.\r\n"),
+    Cue::Hears(b"** Please wait for bob to join too.\r\n"),
+    Cue::Hears(b"** Player bob has left the game. The game was saved.\r\n"),
+    Cue::Hears(
         b"** Player aaaaaaaaaaaaaaaaaaaaaaaaaaaaaaaaaaaaaaaaaaaaaaaaaaaaaaaa has joined you for a 3 point match.\r\n",
     ),
-    Step::Hears(b"Starting a new game with bob.\r\n"),
-    Step::Hears(b"Type 'join aaaaaaaaaaaaaaaaaaaaaaaaaaaaaaaaaaaaaaaaaaaaaaaaaaaaaaaaaaaa' to accept.\r\n"),
-    Step::Hears(b"** You terminated the game. The game was saved.\r\n"),
-    Step::Hears(b"** You're not playing. Type 'join' to play the next game.\r\n"),
-    Step::Hears(b"** You're not playing.\r\n"),
-    Step::Hears(b"** Please wait until bob has accepted or rejected your offer.\r\n"),
-    Step::Hears(b"** You have to accept or reject bob's offer.\r\n"),
-    Step::Hears(b"** There's no saved match with bob. Please give a match length.\r\n"),
-    Step::Hears(b"** bob didn't invite you.\r\n"),
-    Step::Hears(b"** You can't double.\r\n"),
-    Step::Hears(b"** You did already roll the dice.\r\n"),
-    Step::Hears(b"You double. Please wait for bob to accept or reject.\r\n"),
-    Step::Hears(b"You want to resign. bob will win 1 point.\r\n"),
-    Step::Hears(b"You reject. The game continues.\r\n"),
-    Step::Hears(b"You win the game and get 1 point. Congratulations!\r\n"),
-    Step::Hears(b"Type 'join' if you want to play the next game, type 'leave' if you don't.\r\n"),
-    Step::Hears(b"It's your turn to roll or double.\r\n"),
-    Step::Hears(b"Please move 2 pieces.\r\n"),
-    Step::Hears(b"8 bob bob drops connection.\r\n"),
-    Step::Loses,
+    Cue::Hears(b"Starting a new game with bob.\r\n"),
+    Cue::Hears(b"Type 'join aaaaaaaaaaaaaaaaaaaaaaaaaaaaaaaaaaaaaaaaaaaaaaaaaaaaaaaaaaaa' to accept.\r\n"),
+    Cue::Hears(b"** You terminated the game. The game was saved.\r\n"),
+    Cue::Hears(b"** You're not playing. Type 'join' to play the next game.\r\n"),
+    Cue::Hears(b"** You're not playing.\r\n"),
+    Cue::Hears(b"** Please wait until bob has accepted or rejected your offer.\r\n"),
+    Cue::Hears(b"** You have to accept or reject bob's offer.\r\n"),
+    Cue::Hears(b"** There's no saved match with bob. Please give a match length.\r\n"),
+    Cue::Hears(b"** bob didn't invite you.\r\n"),
+    Cue::Hears(b"** You can't double.\r\n"),
+    Cue::Hears(b"** You did already roll the dice.\r\n"),
+    Cue::Hears(b"You double. Please wait for bob to accept or reject.\r\n"),
+    Cue::Hears(b"You want to resign. bob will win 1 point.\r\n"),
+    Cue::Hears(b"You reject. The game continues.\r\n"),
+    Cue::Hears(b"You win the game and get 1 point. Congratulations!\r\n"),
+    Cue::Hears(b"Type 'join' if you want to play the next game, type 'leave' if you don't.\r\n"),
+    Cue::Hears(b"It's your turn to roll or double.\r\n"),
+    Cue::Hears(b"Please move 2 pieces.\r\n"),
+    Cue::Hears(b"8 bob bob drops connection.\r\n"),
+    Cue::Loses,
 ];
 
 /// The next number of a row that looks like chance: at most 2,147,483,647.
@@ -106,18 +106,18 @@ fn beginning_of(line: &'static [u8], chance: &mut u64) -> &'static [u8] {
 }
 
 /// Pushes an event, drawn at random: a line of the server may be cut anywhere. After a loss a new connection is made.
-fn push_event(chance: &mut u64, steps: &mut Vec<Step<'static>>) -> Result<(), AllocError> {
+fn push_event(chance: &mut u64, steps: &mut Vec<Cue<'static>>) -> Result<(), AllocError> {
     let step = EVENTS[one_of(chance, EVENTS.len()).min(63)];
     match step {
-        Step::Hears(line) if one_of(chance, 16) == 0 => {
-            steps.may_push(Step::Hears(beginning_of(line, chance)))?;
-            steps.may_push(Step::Hears(b"\r\n"))?;
+        Cue::Hears(line) if one_of(chance, 16) == 0 => {
+            steps.may_push(Cue::Hears(beginning_of(line, chance)))?;
+            steps.may_push(Cue::Hears(b"\r\n"))?;
         }
-        Step::Loses => {
+        Cue::Loses => {
             steps.may_push(step)?;
-            steps.may_push(Step::Opens)?;
-            steps.may_push(Step::Hears(WELCOME))?;
-            steps.may_push(Step::Hears(SETTINGS))?;
+            steps.may_push(Cue::Opens)?;
+            steps.may_push(Cue::Hears(WELCOME))?;
+            steps.may_push(Cue::Hears(SETTINGS))?;
         }
         _ => steps.may_push(step)?,
     }
@@ -125,7 +125,7 @@ fn push_event(chance: &mut u64, steps: &mut Vec<Step<'static>>) -> Result<(), Al
 }
 
 /// A conversation, drawn at random.
-fn conversation(seed: u64) -> Result<Vec<Step<'static>>, AllocError> {
+fn conversation(seed: u64) -> Result<Vec<Cue<'static>>, AllocError> {
     let mut steps = Vec::new();
     let mut chance = seed;
     for _ in 0..STEPS {

@@ -2,7 +2,7 @@
 
 use super::lines::{MOVED, POINT_MADE, SETTINGS, TO_MOVE, TO_ROLL, WELCOME, to_roll_picture};
 use super::seats::{
-    Scene, Step, assert_has, assert_scenes, assert_shows, assert_wanted, colour_settings, plain_settings, shown,
+    Cue, Scene, assert_has, assert_scenes, assert_shows, assert_wanted, colour_settings, plain_settings, shown,
 };
 use crate::fibs_wording::environment::Settings;
 
@@ -26,23 +26,23 @@ sent move 24-18 13-11
 );
 
 /// The first messages, and a turn.
-static TURN_STEPS: [Step<'static>; 16] = [
-    Step::Hears(WELCOME),
-    Step::Hears(SETTINGS),
-    Step::Hears(TO_ROLL),
-    Step::Rests,
-    Step::Rests,
-    Step::Hears(b"It's your turn to roll or double.\r\n"),
-    Step::Types(b"r"),
-    Step::Rests,
-    Step::Hears(b"You roll 6 and 2.\r\n"),
-    Step::Hears(TO_MOVE),
-    Step::Hears(b"Please move 2 pieces.\r\n"),
-    Step::Rests,
-    Step::Types(b"move 23-22"),
-    Step::Rests,
-    Step::Types(b" 24/18 13/11 "),
-    Step::Rests,
+static TURN_STEPS: [Cue<'static>; 16] = [
+    Cue::Hears(WELCOME),
+    Cue::Hears(SETTINGS),
+    Cue::Hears(TO_ROLL),
+    Cue::Rests,
+    Cue::Rests,
+    Cue::Hears(b"It's your turn to roll or double.\r\n"),
+    Cue::Types(b"r"),
+    Cue::Rests,
+    Cue::Hears(b"You roll 6 and 2.\r\n"),
+    Cue::Hears(TO_MOVE),
+    Cue::Hears(b"Please move 2 pieces.\r\n"),
+    Cue::Rests,
+    Cue::Types(b"move 23-22"),
+    Cue::Rests,
+    Cue::Types(b" 24/18 13/11 "),
+    Cue::Rests,
 ];
 
 #[test]
@@ -53,43 +53,43 @@ fn a_turn_shows_one_picture() {
 /// Connections that come and go, and the last rows that are shown then.
 static CONNECTIONS: [Scene; 7] = [
     (
-        &[Step::Loses, Step::Opens, Step::Hears(b"\r\n"), Step::Hears(b"login: "), Step::Rests, Step::Rests],
+        &[Cue::Loses, Cue::Opens, Cue::Hears(b"\r\n"), Cue::Hears(b"login: "), Cue::Rests, Cue::Rests],
         "connected to fibs.com:4321\nNot logged in: wrong name or password? quit, and begin again.\n",
     ),
     (
         &[
-            Step::Loses,
-            Step::Opens,
-            Step::Rests,
-            Step::Hears(b"login: 1 ann 1041253132 localhost\r\n"),
-            Step::Hears(b"login: "),
-            Step::Rests,
+            Cue::Loses,
+            Cue::Opens,
+            Cue::Rests,
+            Cue::Hears(b"login: 1 ann 1041253132 localhost\r\n"),
+            Cue::Hears(b"login: "),
+            Cue::Rests,
         ],
         "connected to fibs.com:4321\nWelcome, ann. Last login: 30 December 2002, 12:58, from localhost.\n",
     ),
     (
-        &[Step::Loses, Step::Opens, Step::Hears(b"login: 7 carol carol logs in.\r\n"), Step::Rests],
+        &[Cue::Loses, Cue::Opens, Cue::Hears(b"login: 7 carol carol logs in.\r\n"), Cue::Rests],
         "connected to fibs.com:4321\ncarol logs in.\n",
     ),
     (
         &[
-            Step::Loses,
-            Step::Opens,
-            Step::Hears(b"login: "),
-            Step::Rests,
-            Step::Rests,
-            Step::Hears(b"7 carol carol logs in.\r\n"),
-            Step::Rests,
-            Step::Rests,
+            Cue::Loses,
+            Cue::Opens,
+            Cue::Hears(b"login: "),
+            Cue::Rests,
+            Cue::Rests,
+            Cue::Hears(b"7 carol carol logs in.\r\n"),
+            Cue::Rests,
+            Cue::Rests,
         ],
         "Not logged in: wrong name or password? quit, and begin again.\ncarol logs in.\n",
     ),
-    (&[Step::Loses, Step::Types(b"roll")], "ends\nThere is no connection: type open. [2 Offline]\n"),
+    (&[Cue::Loses, Cue::Types(b"roll")], "ends\nThere is no connection: type open. [2 Offline]\n"),
     (
-        &[Step::Types(b"roll"), Step::Loses],
+        &[Cue::Types(b"roll"), Cue::Loses],
         "roll may have reached the server or not\nlost: open connects again, quit ends\n",
     ),
-    (&[Step::Fails], "no connection to fibs.com:4321: connection refused; open tries again\n"),
+    (&[Cue::Fails], "no connection to fibs.com:4321: connection refused; open tries again\n"),
 ];
 
 #[test]
@@ -102,8 +102,8 @@ fn connections_come_and_go() {
 fn each_of_many_boards_is_drawn() {
     let board = String::from_utf8(TO_MOVE.to_vec()).expect("it is a text");
     let boards: Vec<String> = (0..20).map(|number| board.replace(":bob:", &format!(":bob{number}:"))).collect();
-    let steps: Vec<Step<'_>> = boards.iter().flat_map(|board| [Step::Hears(board.as_bytes()), Step::Rests]).collect();
-    let text = shown(plain_settings(), &[Step::Hears(WELCOME), Step::Hears(SETTINGS)], &steps);
+    let steps: Vec<Cue<'_>> = boards.iter().flat_map(|board| [Cue::Hears(board.as_bytes()), Cue::Rests]).collect();
+    let text = shown(plain_settings(), &[Cue::Hears(WELCOME), Cue::Hears(SETTINGS)], &steps);
     let mut rows = text.lines().skip(4);
     assert_wanted(rows.clone().count() == 20 * 15, &text, "20 pictures with their hints");
     for number in 0..20 {
@@ -115,44 +115,44 @@ fn each_of_many_boards_is_drawn() {
 
 /// Lines that are typed, and the last rows that are shown then.
 static TYPED: [Scene; 25] = [
-    (&[Step::Types(b"send accept")], "sent as it is: accept\n"),
-    (&[Step::Types(b"send roll")], "Type it without send: roll\n"),
-    (&[Step::Types(b"roll"), Step::Types(b"send roll")], "sent as it is: roll\n"),
-    (&[Step::Types(b"nonsense")], "unknown: help lists the words\n"),
-    (&[Step::Types(b"leave")], "sent as it is: leave\n"),
-    (&[Step::Types(b"ratings bob")], "not a word of this client: send ratings bob sends it as it is\n"),
-    (&[Step::Types(b" Show Saved ")], "sent as it is: show saved\n"),
-    (&[Step::Types(b" WATCH Eve ")], "sent as it is: watch Eve\n"),
-    (&[Step::Types(b"help order roll")], "withdraw roll: it no longer does.\n"),
-    (&[Step::Types(b"toggle double")], "not a word of this client: send toggle double sends it as it is\n"),
+    (&[Cue::Types(b"send accept")], "sent as it is: accept\n"),
+    (&[Cue::Types(b"send roll")], "Type it without send: roll\n"),
+    (&[Cue::Types(b"roll"), Cue::Types(b"send roll")], "sent as it is: roll\n"),
+    (&[Cue::Types(b"nonsense")], "unknown: help lists the words\n"),
+    (&[Cue::Types(b"leave")], "sent as it is: leave\n"),
+    (&[Cue::Types(b"ratings bob")], "not a word of this client: send ratings bob sends it as it is\n"),
+    (&[Cue::Types(b" Show Saved ")], "sent as it is: show saved\n"),
+    (&[Cue::Types(b" WATCH Eve ")], "sent as it is: watch Eve\n"),
+    (&[Cue::Types(b"help order roll")], "withdraw roll: it no longer does.\n"),
+    (&[Cue::Types(b"toggle double")], "not a word of this client: send toggle double sends it as it is\n"),
     (
-        &[Step::Types(b"invite carol unlimited")],
+        &[Cue::Types(b"invite carol unlimited")],
         "not a word of this client: send invite carol unlimited sends it as it is\n",
     ),
     (
-        &[Step::Types(b"average of all that bob has played")],
+        &[Cue::Types(b"average of all that bob has played")],
         "not a word of this client: send average .. sends it as it is\n",
     ),
-    (&[Step::Types(b"exit")], "quit ends the program, bye leaves the server\n"),
-    (&[Step::Types(b"q")], "quit ends the program, bye leaves the server\n"),
-    (&[Step::Types(b"resign")], "The client then waits for a new board. If it is declined, the screen says more.\n"),
+    (&[Cue::Types(b"exit")], "quit ends the program, bye leaves the server\n"),
+    (&[Cue::Types(b"q")], "quit ends the program, bye leaves the server\n"),
+    (&[Cue::Types(b"resign")], "The client then waits for a new board. If it is declined, the screen says more.\n"),
     (
-        &[Step::Types(b"accept"), Step::Rests],
+        &[Cue::Types(b"accept"), Cue::Rests],
         "That can't be done on this board: help says what can. [8 WrongKind]\nYour turn: roll, or double.\n",
     ),
     (
-        &[Step::Types(b"toggle greedy"), Step::Rests],
+        &[Cue::Types(b"toggle greedy"), Cue::Rests],
         "It is off already, or will be at your next login. [10 NotOn]\nYour turn: roll, or double.\n",
     ),
-    (&[Step::Types(b"help"), Step::Rests], "help WORD says more about a word.\nYour turn: roll, or double.\n"),
-    (&[Step::Types(b"help roll"), Step::Rests], "roll (or r): rolls your dice.\n"),
-    (&[Step::Types(b"help DOUBLE ")], "double: offers to double the stake, before you roll. No short form.\n"),
-    (&[Step::Types(b"help nonsense")], "No such word: help lists the words.\n"),
-    (&[Step::Types(b"gag bob "), Step::Types(b"ungag bob ")], "bob is heard again.\n"),
-    (&[Step::Types(b"gag Bob"), Step::Types(b"ungag bob")], "Nobody of that name is gagged.\n"),
-    (&[Step::Types(b"moves ALL ")], "No board of this game has shown a roll and its play yet.\n"),
+    (&[Cue::Types(b"help"), Cue::Rests], "help WORD says more about a word.\nYour turn: roll, or double.\n"),
+    (&[Cue::Types(b"help roll"), Cue::Rests], "roll (or r): rolls your dice.\n"),
+    (&[Cue::Types(b"help DOUBLE ")], "double: offers to double the stake, before you roll. No short form.\n"),
+    (&[Cue::Types(b"help nonsense")], "No such word: help lists the words.\n"),
+    (&[Cue::Types(b"gag bob "), Cue::Types(b"ungag bob ")], "bob is heard again.\n"),
+    (&[Cue::Types(b"gag Bob"), Cue::Types(b"ungag bob")], "Nobody of that name is gagged.\n"),
+    (&[Cue::Types(b"moves ALL ")], "No board of this game has shown a roll and its play yet.\n"),
     (
-        &[Step::Types(b"say hi"), Step::Hears(b"** 1 user heard you.\r\n"), Step::Rests],
+        &[Cue::Types(b"say hi"), Cue::Hears(b"** 1 user heard you.\r\n"), Cue::Rests],
         "sent say hi\n** 1 user heard you.\n",
     ),
 ];
@@ -165,27 +165,27 @@ fn typed_lines_are_answered() {
 /// Lines of the server among others, and the last rows that are shown then.
 static HEARD: [Scene; 3] = [
     (
-        &[Step::Types(b"gag bob"), Step::Hears(b"12 bob hi\r\n"), Step::Hears(b"13 bob hi\r\n")],
+        &[Cue::Types(b"gag bob"), Cue::Hears(b"12 bob hi\r\n"), Cue::Hears(b"13 bob hi\r\n")],
         "bob is gagged on this screen: ungag NAME ends it.\n",
     ),
     (
         &[
-            Step::Types(b"roll"),
-            Step::Hears(TO_MOVE),
-            Step::Types(b"plays"),
-            Step::Types(b"move 24-18 13-11"),
-            Step::Hears(MOVED),
+            Cue::Types(b"roll"),
+            Cue::Hears(TO_MOVE),
+            Cue::Types(b"plays"),
+            Cue::Types(b"move 24-18 13-11"),
+            Cue::Hears(MOVED),
         ],
         "bob's turn.\n",
     ),
     (
         &[
-            Step::Types(b"who"),
-            Step::Hears(b"5 bob ann - 0 0 1623.45 0 0 1 host - -\r\n"),
-            Step::Hears(b"5 carol - bob 0 1 1701.00 0 0 1 host - -\r\n"),
-            Step::Hears(b"5 dave - - 1 0 900.05 0 0 1 host - -\r\n"),
-            Step::Hears(b"6\r\n"),
-            Step::Types(b"players"),
+            Cue::Types(b"who"),
+            Cue::Hears(b"5 bob ann - 0 0 1623.45 0 0 1 host - -\r\n"),
+            Cue::Hears(b"5 carol - bob 0 1 1701.00 0 0 1 host - -\r\n"),
+            Cue::Hears(b"5 dave - - 1 0 900.05 0 0 1 host - -\r\n"),
+            Cue::Hears(b"6\r\n"),
+            Cue::Types(b"players"),
         ],
         "3 players: type players
 player                  rating  points    idle   does
@@ -210,7 +210,7 @@ static BOLD_ROWS: [&str; 3] = [
 ];
 
 /// The first board with dice.
-static TO_MOVE_STEPS: [Step<'static>; 2] = [Step::Hears(WELCOME), Step::Hears(TO_MOVE)];
+static TO_MOVE_STEPS: [Cue<'static>; 2] = [Cue::Hears(WELCOME), Cue::Hears(TO_MOVE)];
 
 #[test]
 fn what_is_the_players_is_bold() {
@@ -234,7 +234,7 @@ static CUBE_ROWS: [(usize, &str); 4] = [
 fn no_word_beside_the_board_is_cut() {
     for (columns, row) in &CUBE_ROWS {
         let settings = Settings { columns: *columns, ..colour_settings() };
-        assert_has(settings, &[Step::Hears(WELCOME), Step::Hears(NOBODY_DOUBLES)], &[row]);
+        assert_has(settings, &[Cue::Hears(WELCOME), Cue::Hears(NOBODY_DOUBLES)], &[row]);
     }
 }
 
@@ -245,8 +245,8 @@ static MARKED_ROWS: [&str; 2] = [
 ];
 
 /// The opponent's move after the first board.
-static LAST_MOVE: [Step<'static>; 4] =
-    [Step::Hears(WELCOME), Step::Hears(SETTINGS), Step::Hears(TO_ROLL), Step::Hears(POINT_MADE)];
+static LAST_MOVE: [Cue<'static>; 4] =
+    [Cue::Hears(WELCOME), Cue::Hears(SETTINGS), Cue::Hears(TO_ROLL), Cue::Hears(POINT_MADE)];
 
 #[test]
 fn the_opponents_last_move_is_marked() {

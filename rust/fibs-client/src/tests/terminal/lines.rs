@@ -1,6 +1,6 @@
 //! Lines that the server sends.
 
-use super::seats::Step;
+use super::seats::Cue;
 
 /// The first messages of a connection.
 pub const WELCOME: &[u8] = b"1 ann 1041253132 localhost\r\n";
@@ -45,5 +45,5 @@ pub const POINT_MADE: &[u8] =
     b"board:You:bob:3:0:1:0:-2:0:0:0:0:5:0:3:0:0:0:-5:5:0:0:0:-2:0:-4:-2:0:0:0:2:0:1:0:0:0:0:1:1:1:0:1:-1:0:25:0:0:0:0:2:0:0:0\r\n";
 
 /// Steps up to the first board, at which the user may type.
-pub static FIRST_BOARD: [Step<'static>; 4] =
-    [Step::Hears(WELCOME), Step::Hears(SETTINGS), Step::Hears(TO_ROLL), Step::Rests];
+pub static FIRST_BOARD: [Cue<'static>; 4] =
+    [Cue::Hears(WELCOME), Cue::Hears(SETTINGS), Cue::Hears(TO_ROLL), Cue::Rests];

@@ -1,7 +1,7 @@
 //! Messages, and their words.
 
 use super::super::boards::TO_ROLL;
-use super::seats::{Step, assert_shows, assert_wanted, plain_settings, shown};
+use super::seats::{Cue, assert_shows, assert_wanted, plain_settings, shown};
 use crate::fibs_wording::environment::Settings;
 
 /// A line of the server, and what is shown of it.
@@ -30,7 +30,7 @@ static LINES: [(&[u8], &str); 16] = [
 #[test]
 fn messages_are_worded() {
     for (line, rows) in &LINES {
-        assert_shows(plain_settings(), &[Step::Hears(line)], rows);
+        assert_shows(plain_settings(), &[Cue::Hears(line)], rows);
     }
 }
 
@@ -39,14 +39,14 @@ fn letters_stand_as_they_are() {
     let settings = Settings { utf8: true, bell: true, ..plain_settings() };
     let line = "12 bob \u{e9}\u{202e}\u{9b}\u{4e2d}\r\n";
     let row = "\x0713:07 bob says: \u{e9}\\xe2\\x80\\xae\\xc2\\x9b\u{4e2d}\n";
-    assert_shows(settings, &[Step::Hears(line.as_bytes())], row);
+    assert_shows(settings, &[Cue::Hears(line.as_bytes())], row);
 }
 
 /// Asserts that a board line is shown as it came, below what is wrong with it, if that is said.
 fn assert_board(line: &str, fault: Option<&str>) {
     let said = fault.map_or(String::new(), |fault| format!("A board that can't be read: {fault}\n"));
     let sent = format!("{line}\r\n");
-    assert_shows(plain_settings(), &[Step::Hears(sent.as_bytes())], &format!("{said}{line}\n"));
+    assert_shows(plain_settings(), &[Cue::Hears(sent.as_bytes())], &format!("{said}{line}\n"));
 }
 
 /// A field that is missing, one that is wrong, one too many; and too many checkers, of which nothing is said.
@@ -105,7 +105,7 @@ fn hostile_line(line: &[u8]) -> Vec<u8> {
 #[test]
 fn what_a_terminal_obeys_is_told() {
     for (line, is_shown) in &PLACES {
-        let text = shown(plain_settings(), &[], &[Step::Hears(&hostile_line(line))]);
+        let text = shown(plain_settings(), &[], &[Cue::Hears(&hostile_line(line))]);
         let is_harmless = text.bytes().all(|byte| byte == b'\n' || (b' '..=b'~').contains(&byte));
         let is_told = text.contains("\\x1b[2J");
         assert_wanted(is_harmless && is_told == *is_shown, &format!("{text:?} of {line:?}"), "escaped bytes");

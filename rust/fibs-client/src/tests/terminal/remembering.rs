@@ -1,7 +1,7 @@
 //! What a terminal remembers, and for how long.
 
 use super::lines::{FIRST_BOARD, MOVED, POINT_MADE, TO_MOVE, TO_ROLL, WELCOME, to_roll_picture};
-use super::seats::{Scene, Step, assert_scenes, assert_wanted, colour_settings, plain_settings, shown};
+use super::seats::{Cue, Scene, assert_scenes, assert_wanted, colour_settings, plain_settings, shown};
 use crate::fibs_wording::environment::Settings;
 
 /// The first board against another opponent.
@@ -42,10 +42,10 @@ fn bell_settings() -> Settings<'static> {
 
 /// Of a connection that is lost nothing is said, and of one before it neither.
 static LOST: [Scene; 3] = [
-    (&[Step::Hears(RESIGNS), Step::Loses, Step::Rests], "point.\n\x07lost: open connects again, quit ends\n"),
-    (&[Step::Hears(RESIGNS), Step::Loses, Step::Opens, Step::Rests], "quit ends\nconnected to fibs.com:4321\n"),
+    (&[Cue::Hears(RESIGNS), Cue::Loses, Cue::Rests], "point.\n\x07lost: open connects again, quit ends\n"),
+    (&[Cue::Hears(RESIGNS), Cue::Loses, Cue::Opens, Cue::Rests], "quit ends\nconnected to fibs.com:4321\n"),
     (
-        &[Step::Hears(b"5 bob - - 1 0 1623.45 0 0 1 host - -\r\n"), Step::Loses, Step::Opens, Step::Hears(b"6\r\n")],
+        &[Cue::Hears(b"5 bob - - 1 0 1623.45 0 0 1 host - -\r\n"), Cue::Loses, Cue::Opens, Cue::Hears(b"6\r\n")],
         "quit ends\nconnected to fibs.com:4321\n",
     ),
 ];
@@ -57,9 +57,9 @@ fn what_was_said_before_a_loss_is_forgotten() {
 
 /// A board is drawn again, and nobody was waited for.
 static DRAWN_AGAIN: [Scene; 2] = [
-    (&[Step::Loses, Step::Opens, Step::Hears(WELCOME), Step::Hears(TO_ROLL)], "   O You\n"),
+    (&[Cue::Loses, Cue::Opens, Cue::Hears(WELCOME), Cue::Hears(TO_ROLL)], "   O You\n"),
     (
-        &[Step::Hears(MOVED), Step::Loses, Step::Opens, Step::Hears(TO_ROLL)],
+        &[Cue::Hears(MOVED), Cue::Loses, Cue::Opens, Cue::Hears(TO_ROLL)],
         concat!("connected to fibs.com:4321\n", to_roll_picture!()),
     ),
 ];
@@ -73,33 +73,33 @@ fn a_board_is_drawn_again() {
 static QUIET: [Scene; 3] = [
     (
         &[
-            Step::Types(b"quiet"),
-            Step::Hears(b"7 carol carol logs in.\r\n"),
-            Step::Hears(b"8 carol\r\n"),
-            Step::Hears(b"13 carol hi\r\n"),
-            Step::Hears(b"5 bob - - 1 0 1623.45 0 0 1 host - -\r\n"),
-            Step::Hears(b"6\r\n"),
-            Step::Hears(b"12 bob hi\r\n"),
+            Cue::Types(b"quiet"),
+            Cue::Hears(b"7 carol carol logs in.\r\n"),
+            Cue::Hears(b"8 carol\r\n"),
+            Cue::Hears(b"13 carol hi\r\n"),
+            Cue::Hears(b"5 bob - - 1 0 1623.45 0 0 1 host - -\r\n"),
+            Cue::Hears(b"6\r\n"),
+            Cue::Hears(b"12 bob hi\r\n"),
         ],
         "quiet: no shouts, and not who comes and goes; loud shows them.\n\x0713:07 bob says: hi\n",
     ),
     (
         &[
-            Step::Types(b"gag bob"),
-            Step::Hears(b"14 bob hi\r\n"),
-            Step::Hears(b"15 bob hi\r\n"),
-            Step::Hears(b"9 bob 1041253132 hi\r\n"),
-            Step::Hears(b"7 bob bob logs in.\r\n"),
+            Cue::Types(b"gag bob"),
+            Cue::Hears(b"14 bob hi\r\n"),
+            Cue::Hears(b"15 bob hi\r\n"),
+            Cue::Hears(b"9 bob 1041253132 hi\r\n"),
+            Cue::Hears(b"7 bob bob logs in.\r\n"),
         ],
         "bob is gagged on this screen: ungag NAME ends it.\n",
     ),
     (
         &[
-            Step::Types(b"gag bob"),
-            Step::Types(b"gag carol"),
-            Step::Types(b"ungag bob"),
-            Step::Hears(b"12 carol hi\r\n"),
-            Step::Hears(b"12 bob hi\r\n"),
+            Cue::Types(b"gag bob"),
+            Cue::Types(b"gag carol"),
+            Cue::Types(b"ungag bob"),
+            Cue::Hears(b"12 carol hi\r\n"),
+            Cue::Hears(b"12 bob hi\r\n"),
         ],
         "bob is heard again.\n\x0713:07 bob says: hi\n",
     ),
@@ -112,11 +112,11 @@ fn what_is_quiet_is_not_shown() {
 
 /// The bell: at a turn after the opponent's, at a loss, at a message that was left; not at the opponent's turn.
 static RUNG: [Scene; 4] = [
-    (&[Step::Hears(MOVED)], "Your turn: roll, or double.\nbob's turn.\n"),
-    (&[Step::Hears(MOVED), Step::Hears(TO_ROLL), Step::Rests], "bob's turn.\n\x07Your turn: roll, or double.\n"),
-    (&[Step::Loses], "Your turn: roll, or double.\n\x07lost: open connects again, quit ends\n"),
+    (&[Cue::Hears(MOVED)], "Your turn: roll, or double.\nbob's turn.\n"),
+    (&[Cue::Hears(MOVED), Cue::Hears(TO_ROLL), Cue::Rests], "bob's turn.\n\x07Your turn: roll, or double.\n"),
+    (&[Cue::Loses], "Your turn: roll, or double.\n\x07lost: open connects again, quit ends\n"),
     (
-        &[Step::Hears(b"9 carol 1041253132 see you\r\n")],
+        &[Cue::Hears(b"9 carol 1041253132 see you\r\n")],
         "double.\n\x07carol left a message on 30 December 2002, 12:58: see you\n",
     ),
 ];
@@ -128,26 +128,26 @@ fn the_bell_rings() {
 
 /// A board of another opponent is drawn; one that was asked for is drawn once; what it says is said once.
 static BOARDS: [Scene; 5] = [
-    (&[Step::Hears(WITH_CAROL)], "   O You\n You roll, or double, or resign.\n"),
+    (&[Cue::Hears(WITH_CAROL)], "   O You\n You roll, or double, or resign.\n"),
     (
-        &[Step::Types(b"board"), Step::Hears(TO_ROLL), Step::Hears(MOVED)],
+        &[Cue::Types(b"board"), Cue::Hears(TO_ROLL), Cue::Hears(MOVED)],
         concat!("sent board\n", to_roll_picture!(), " You roll, or double, or resign.\nbob's turn.\n"),
     ),
     (
         &[
-            Step::Hears(b"bob's turn.\r\n"),
-            Step::Hears(MOVED),
-            Step::Hears(MOVED),
-            Step::Hears(MOVED_BEFORE_A_ROLL),
-            Step::Hears(MOVED_BEFORE_A_ROLL),
+            Cue::Hears(b"bob's turn.\r\n"),
+            Cue::Hears(MOVED),
+            Cue::Hears(MOVED),
+            Cue::Hears(MOVED_BEFORE_A_ROLL),
+            Cue::Hears(MOVED_BEFORE_A_ROLL),
         ],
         "double.\nbob's turn.\nbob's turn.\n",
     ),
     (
-        &[Step::Hears(ENTRY_CLOSED), Step::Hears(b"You can't move.\r\n")],
+        &[Cue::Hears(ENTRY_CLOSED), Cue::Hears(b"You can't move.\r\n")],
         "double.\nYou can't move: the server passes for you.\n",
     ),
-    (&[Step::Hears(GAME_OVER), Step::Hears(GAME_OVER)], "double.\nThe game is over. You 0, bob 1 of 3.\n"),
+    (&[Cue::Hears(GAME_OVER), Cue::Hears(GAME_OVER)], "double.\nThe game is over. You 0, bob 1 of 3.\n"),
 ];
 
 #[test]
@@ -157,7 +157,7 @@ fn a_board_is_shown_once() {
 
 /// The rule that a move breaks is that of the last one.
 static MOVES: [Scene; 1] = [(
-    &[Step::Types(b"roll"), Step::Hears(TO_MOVE), Step::Types(b"move 23-22"), Step::Types(b"move 22-21")],
+    &[Cue::Types(b"roll"), Cue::Hears(TO_MOVE), Cue::Types(b"move 23-22"), Cue::Types(b"move 22-21")],
     "You have no checker on 23. [9 IllegalPlay]\nYou have no checker on 22. [9 IllegalPlay]\n",
 )];
 
@@ -170,35 +170,35 @@ fn the_rule_is_that_of_the_last_move() {
 static LISTS: [Scene; 3] = [
     (
         &[
-            Step::Types(b"who"),
-            Step::Hears(b"5 bob - - 1 0 1623.45 0 0 1 host - -\r\n"),
-            Step::Hears(b"5 carol - - 1 0 1701.00 0 0 1 host - -\r\n"),
-            Step::Hears(b"6\r\n"),
-            Step::Hears(b"5 dave - - 1 0 900.05 0 0 1 host - -\r\n"),
-            Step::Hears(b"6\r\n"),
+            Cue::Types(b"who"),
+            Cue::Hears(b"5 bob - - 1 0 1623.45 0 0 1 host - -\r\n"),
+            Cue::Hears(b"5 carol - - 1 0 1701.00 0 0 1 host - -\r\n"),
+            Cue::Hears(b"6\r\n"),
+            Cue::Hears(b"5 dave - - 1 0 900.05 0 0 1 host - -\r\n"),
+            Cue::Hears(b"6\r\n"),
         ],
         "sent who\n2 players: type players\ndave (900.05): ready\n",
     ),
     (
         &[
-            Step::Hears(b"5 bob - - 1 0 1623.45 0 0 1 host - -\r\n"),
-            Step::Hears(b"6\r\n"),
-            Step::Hears(b"5 dave - - 1 0 900.05 0 0 1 host - -\r\n"),
-            Step::Hears(b"6\r\n"),
+            Cue::Hears(b"5 bob - - 1 0 1623.45 0 0 1 host - -\r\n"),
+            Cue::Hears(b"6\r\n"),
+            Cue::Hears(b"5 dave - - 1 0 900.05 0 0 1 host - -\r\n"),
+            Cue::Hears(b"6\r\n"),
         ],
         "bob (1623.45): ready\ndave (900.05): ready\n",
     ),
     (
         &[
-            Step::Loses,
-            Step::Opens,
-            Step::Hears(WELCOME),
-            Step::Hears(b"5 bob - - 1 0 1623.45 0 0 1 host - -\r\n"),
-            Step::Hears(b"5 carol - - 1 0 1701.00 0 0 1 host - -\r\n"),
-            Step::Hears(b"6\r\n"),
-            Step::Hears(b"5 bob carol - 0 0 1623.45 0 0 1 host - -\r\n"),
-            Step::Hears(b"5 carol bob - 0 0 1701.00 0 0 1 host - -\r\n"),
-            Step::Hears(b"6\r\n"),
+            Cue::Loses,
+            Cue::Opens,
+            Cue::Hears(WELCOME),
+            Cue::Hears(b"5 bob - - 1 0 1623.45 0 0 1 host - -\r\n"),
+            Cue::Hears(b"5 carol - - 1 0 1701.00 0 0 1 host - -\r\n"),
+            Cue::Hears(b"6\r\n"),
+            Cue::Hears(b"5 bob carol - 0 0 1623.45 0 0 1 host - -\r\n"),
+            Cue::Hears(b"5 carol bob - 0 0 1701.00 0 0 1 host - -\r\n"),
+            Cue::Hears(b"6\r\n"),
         ],
         "from localhost.\n2 players: type players\n",
     ),
@@ -210,10 +210,10 @@ fn each_list_is_counted_anew() {
 }
 
 /// Boards after which nothing was the opponent's last move.
-static UNMARKED: [&[Step<'static>]; 3] = [
-    &[Step::Hears(FIVE_MOVED)],
-    &[Step::Hears(POINT_OF_CAROL)],
-    &[Step::Hears(POINT_MADE), Step::Loses, Step::Opens, Step::Hears(b"here again\r\n"), Step::Hears(POINT_MADE)],
+static UNMARKED: [&[Cue<'static>]; 3] = [
+    &[Cue::Hears(FIVE_MOVED)],
+    &[Cue::Hears(POINT_OF_CAROL)],
+    &[Cue::Hears(POINT_MADE), Cue::Loses, Cue::Opens, Cue::Hears(b"here again\r\n"), Cue::Hears(POINT_MADE)],
 ];
 
 /// What follows the words `here again` in a text, or all of it if they are not there.
@@ -225,7 +225,7 @@ fn last_of(text: &str) -> &str {
 }
 
 /// Asserts that the last board that is shown has no mark.
-fn assert_unmarked(steps: &[Step<'_>]) {
+fn assert_unmarked(steps: &[Cue<'_>]) {
     let text = shown(colour_settings(), &FIRST_BOARD, steps);
     let last = last_of(&text);
     let is_unmarked = last.contains("O You") && !last.contains("\x1b[35m");
@@ -254,6 +254,6 @@ fn widest_row(text: &str) -> usize {
 #[test]
 fn a_picture_is_cut_to_the_columns() {
     let settings = Settings { columns: 60, ..plain_settings() };
-    let text = shown(settings, &FIRST_BOARD, &[Step::Hears(LONG_NAME)]);
+    let text = shown(settings, &FIRST_BOARD, &[Cue::Hears(LONG_NAME)]);
     assert_wanted(widest_row(&text) == 60, &text, "60 columns");
 }

@@ -1,7 +1,7 @@
 //! The rule that a move breaks, as a terminal names it.
 
 use super::lines::TO_MOVE;
-use super::seats::{Scene, Step, assert_scenes, plain_settings};
+use super::seats::{Cue, Scene, assert_scenes, plain_settings};
 
 /// A board with dice 5 and 4, on which the checker on 6 can't move and that on 4 can go off.
 const BEARING_OFF: &[u8] =
@@ -9,14 +9,11 @@ const BEARING_OFF: &[u8] =
 
 /// Moves, and the rule that each breaks.
 static RULES: [Scene; 5] = [
-    (&[Step::Hears(BEARING_OFF), Step::Types(b"move 3-off")], "\nA checker farther back goes first. [9 IllegalPlay]\n"),
-    (&[Step::Hears(BEARING_OFF), Step::Types(b"move 6-1")], "\nYour opponent holds 1. [9 IllegalPlay]\n"),
-    (&[Step::Hears(BEARING_OFF), Step::Types(b"move 4-off")], "\nsent move 4-off\n"),
-    (
-        &[Step::Hears(TO_MOVE), Step::Types(b"move 6-off")],
-        "\nNo checker goes off before all are home. [9 IllegalPlay]\n",
-    ),
-    (&[Step::Hears(TO_MOVE), Step::Types(b"move 24-18")], "\nBoth dice must be played. [9 IllegalPlay]\n"),
+    (&[Cue::Hears(BEARING_OFF), Cue::Types(b"move 3-off")], "\nA checker farther back goes first. [9 IllegalPlay]\n"),
+    (&[Cue::Hears(BEARING_OFF), Cue::Types(b"move 6-1")], "\nYour opponent holds 1. [9 IllegalPlay]\n"),
+    (&[Cue::Hears(BEARING_OFF), Cue::Types(b"move 4-off")], "\nsent move 4-off\n"),
+    (&[Cue::Hears(TO_MOVE), Cue::Types(b"move 6-off")], "\nNo checker goes off before all are home. [9 IllegalPlay]\n"),
+    (&[Cue::Hears(TO_MOVE), Cue::Types(b"move 24-18")], "\nBoth dice must be played. [9 IllegalPlay]\n"),
 ];
 
 #[test]

@@ -1,7 +1,6 @@
 //! A client and a terminal, to which a server's lines and typed lines are given.
 
 use super::lines::FIRST_BOARD;
-use crate::fibs_wording::environment::{Settings, Zone};
 use crate::fibs_connect::fault::FrontFault;
 use crate::fibs_connect::front::Front;
 use crate::fibs_connect::said::Said;
@@ -10,9 +9,10 @@ use crate::fibs_connect::wish::Wish;
 use crate::fibs_connect::words::Words;
 use crate::fibs_messages::Reading;
 use crate::fibs_position::GameBoard;
+use crate::fibs_session::typed::typing::{Typed, read_typed};
 use crate::fibs_session::{Client, Directory, Login, Taken};
 use crate::fibs_terminal::Terminal;
-use crate::fibs_session::typed::typing::{Typed, read_typed};
+use crate::fibs_wording::environment::{Settings, Zone};
 use crate::rattle::io;
 use crate::rattle::io::{ErrorKind, Write};
 use crate::rattle::time::{Clock, Duration};
@@ -31,9 +31,9 @@ impl Clock for Stopped {
     }
 }
 
-/// What happens at a seat.
+/// A cue of a scene: what happens at a seat.
 #[derive(Clone, Copy)]
-pub enum Step<'a> {
+pub enum Cue<'a> {
     /// The server sends a line.
     Hears(&'a [u8]),
     /// The user types a line.
@@ -66,19 +66,19 @@ pub fn plain_settings() -> Settings<'static> {
 }
 
 /// A client, and the players that it knows.
-struct Seat {
+struct TestSeat {
     client: Client,
     directory: Directory,
 }
 
-impl Seat {
+impl TestSeat {
     /// The seat of a user who is connected.
-    fn new() -> Seat {
+    fn new() -> TestSeat {
         let login = Login::new(b"ann", b"secret").expect("it is a login");
         let mut client = Client::new(login);
         let _login = client.open();
         let directory = Directory::new();
-        Seat { client, directory }
+        TestSeat { client, directory }
     }
 
     /// Tells what the server says by a line.
@@ -118,22 +118,22 @@ impl Seat {
     }
 
     /// Takes a step.
-    fn take_step<F: Words>(&mut self, step: Step<'_>, front: &mut F) -> Result<(), FrontFault> {
+    fn take_step<F: Words>(&mut self, step: Cue<'_>, front: &mut F) -> Result<(), FrontFault> {
         match step {
-            Step::Hears(line) => self.hear(line, front),
-            Step::Types(line) => self.take_line(line, front),
-            Step::Rests => front.rest(&self.client, &self.directory),
-            Step::Opens => {
+            Cue::Hears(line) => self.hear(line, front),
+            Cue::Types(line) => self.take_line(line, front),
+            Cue::Rests => front.rest(&self.client, &self.directory),
+            Cue::Opens => {
                 let _login = self.client.open();
                 front.tell(&Said::Opened)
             }
-            Step::Fails => front.tell(&Said::NoConnection(ErrorKind::ConnectionRefused)),
-            Step::Loses => front.tell(&Said::Lost(&self.client.lose())),
+            Cue::Fails => front.tell(&Said::NoConnection(ErrorKind::ConnectionRefused)),
+            Cue::Loses => front.tell(&Said::Lost(&self.client.lose())),
         }
     }
 
     /// Takes steps one after another.
-    fn take_steps<F: Words>(&mut self, steps: &[Step<'_>], front: &mut F) -> Result<(), FrontFault> {
+    fn take_steps<F: Words>(&mut self, steps: &[Cue<'_>], front: &mut F) -> Result<(), FrontFault> {
         for step in steps {
             self.take_step(*step, front)?;
         }
@@ -141,12 +141,7 @@ impl Seat {
     }
 
     /// Takes some steps, and those after them.
-    fn take_both<F: Words>(
-        &mut self,
-        before: &[Step<'_>],
-        steps: &[Step<'_>],
-        front: &mut F,
-    ) -> Result<(), FrontFault> {
+    fn take_both<F: Words>(&mut self, before: &[Cue<'_>], steps: &[Cue<'_>], front: &mut F) -> Result<(), FrontFault> {
         self.take_steps(before, front)?;
         self.take_steps(steps, front)
     }
@@ -192,7 +187,7 @@ fn note<F: Front>(directory: &mut Directory, reading: &Reading<'_>, front: &mut 
 }
 
 /// What the screen shows after some steps and those after them, of a user who is connected.
-pub fn shown(settings: Settings<'_>, before: &[Step<'_>], steps: &[Step<'_>]) -> String {
+pub fn shown(settings: Settings<'_>, before: &[Cue<'_>], steps: &[Cue<'_>]) -> String {
     let mut shown = Vec::new();
     show_on(settings, before, steps, &mut shown).expect("it is shown");
     String::from_utf8(shown).expect("it is UTF-8")
@@ -201,12 +196,12 @@ pub fn shown(settings: Settings<'_>, before: &[Step<'_>], steps: &[Step<'_>]) ->
 /// The same on any writer.
 pub fn show_on<W: Write>(
     settings: Settings<'_>,
-    before: &[Step<'_>],
-    steps: &[Step<'_>],
+    before: &[Cue<'_>],
+    steps: &[Cue<'_>],
     out: W,
 ) -> Result<(), FrontFault> {
     let mut terminal = Terminal::new(out, Stopped, settings);
-    Seat::new().take_both(before, steps, &mut terminal)
+    TestSeat::new().take_both(before, steps, &mut terminal)
 }
 
 /// Asserts that a text is as it is wanted.
@@ -220,19 +215,19 @@ pub fn assert_of(is_right: bool, text: &[u8]) {
 }
 
 /// Asserts what the screen shows after some steps.
-pub fn assert_shows(settings: Settings<'_>, steps: &[Step<'_>], wanted: &str) {
+pub fn assert_shows(settings: Settings<'_>, steps: &[Cue<'_>], wanted: &str) {
     let text = shown(settings, &[], steps);
     assert_wanted(text.as_str() == wanted, &text, wanted);
 }
 
 /// Asserts that what the screen shows after some steps and those after them ends by these rows.
-pub fn assert_ends(settings: Settings<'_>, before: &[Step<'_>], steps: &[Step<'_>], rows: &str) {
+pub fn assert_ends(settings: Settings<'_>, before: &[Cue<'_>], steps: &[Cue<'_>], rows: &str) {
     let text = shown(settings, before, steps);
     assert_wanted(text.ends_with(rows), &text, rows);
 }
 
 /// Steps, and the last rows that are shown then.
-pub type Scene = (&'static [Step<'static>], &'static str);
+pub type Scene = (&'static [Cue<'static>], &'static str);
 
 /// Asserts for each scene that what the screen shows from the first board on ends by its rows.
 pub fn assert_scenes(settings: Settings<'_>, scenes: &[Scene]) {
@@ -242,7 +237,7 @@ pub fn assert_scenes(settings: Settings<'_>, scenes: &[Scene]) {
 }
 
 /// Asserts that what the screen shows after steps has each of these rows.
-pub fn assert_has(settings: Settings<'_>, steps: &[Step<'_>], rows: &[&str]) {
+pub fn assert_has(settings: Settings<'_>, steps: &[Cue<'_>], rows: &[&str]) {
     let text = shown(settings, &[], steps);
     for row in rows {
         assert_wanted(text.contains(*row), &text, row);

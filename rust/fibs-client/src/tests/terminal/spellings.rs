@@ -1,7 +1,7 @@
 //! Lines as players type them, and what is sent.
 
 use super::lines::{SETTINGS, WELCOME};
-use super::seats::{Step, assert_ends, plain_settings};
+use super::seats::{Cue, assert_ends, plain_settings};
 
 /// A board with the dice 6 and 5, on which the player goes down.
 const BOARD: &[u8] =
@@ -72,19 +72,19 @@ static MOVES: [(&[u8], &[u8], &str); 11] = [
 ];
 
 /// Steps up to the board.
-static SHOWN: [Step<'static>; 3] = [Step::Hears(WELCOME), Step::Hears(SETTINGS), Step::Hears(BOARD)];
+static SHOWN: [Cue<'static>; 3] = [Cue::Hears(WELCOME), Cue::Hears(SETTINGS), Cue::Hears(BOARD)];
 
 #[test]
 fn lines_are_spelled_out() {
     for (line, rows) in &LINES {
-        assert_ends(plain_settings(), &SHOWN, &[Step::Types(line)], rows);
+        assert_ends(plain_settings(), &SHOWN, &[Cue::Types(line)], rows);
     }
 }
 
 #[test]
 fn moves_are_spelled_out() {
     for (board, line, rows) in &MOVES {
-        let shown = [Step::Hears(WELCOME), Step::Hears(SETTINGS), Step::Hears(board)];
-        assert_ends(plain_settings(), &shown, &[Step::Types(line)], rows);
+        let shown = [Cue::Hears(WELCOME), Cue::Hears(SETTINGS), Cue::Hears(board)];
+        assert_ends(plain_settings(), &shown, &[Cue::Types(line)], rows);
     }
 }

@@ -1,7 +1,7 @@
 //! Boards that the user watches: their pictures, and the same in words, which were made by hand.
 
 use super::lines::{SETTINGS, WELCOME};
-use super::seats::{Step, assert_wanted, colour_settings, plain_settings};
+use super::seats::{Cue, assert_wanted, colour_settings, plain_settings};
 use crate::fibs_fields::boards::Board;
 use crate::fibs_picture::draw_watched;
 use crate::fibs_picture::in_words::tell_watched;
@@ -239,13 +239,13 @@ const HINT: &str = "You watch bob and eve: unwatch ends it.\n";
 fn seen(settings: Settings<'_>, boards: &[&str]) -> String {
     let lines: Vec<String> = boards.iter().map(|board| format!("{board}\r\n")).collect();
     let before = [
-        Step::Hears(WELCOME),
-        Step::Hears(SETTINGS),
-        Step::Types(b"watch bob"),
-        Step::Hears(b"You're now watching bob.\r\n"),
-        Step::Rests,
+        Cue::Hears(WELCOME),
+        Cue::Hears(SETTINGS),
+        Cue::Types(b"watch bob"),
+        Cue::Hears(b"You're now watching bob.\r\n"),
+        Cue::Rests,
     ];
-    let steps: Vec<Step<'_>> = lines.iter().flat_map(|line| [Step::Hears(line.as_bytes()), Step::Rests]).collect();
+    let steps: Vec<Cue<'_>> = lines.iter().flat_map(|line| [Cue::Hears(line.as_bytes()), Cue::Rests]).collect();
     let all = super::seats::shown(settings, &before, &steps);
     let begun = "board shows the game now, unwatch ends it.\n";
     all.split_once(begun).expect("the user watches").1.to_string()

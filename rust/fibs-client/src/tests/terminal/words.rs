@@ -1,8 +1,8 @@
 //! Boards of both colours and directions, told in words, which were written by hand.
 
 use crate::fibs_fields::boards::Board;
-use crate::fibs_position::GameBoard;
 use crate::fibs_picture::in_words::tell;
+use crate::fibs_position::GameBoard;
 use crate::rattle::io;
 use crate::rattle::io::Write;
 

@@ -1,7 +1,7 @@
 //! A client at its connection, for the tests of turns.
 
-use crate::fibs_engine::link::Link;
 use crate::fibs_connect::turns::{Ending, ExchangeFault, exchange};
+use crate::fibs_engine::link::Link;
 use crate::fibs_session::{Client, Directory, Login};
 use crate::fibs_test_tools::pipe::{After, Pipe, QUIET};
 use crate::fibs_test_tools::text::{TEXT_ROOM, Text, joined};
@@ -51,7 +51,7 @@ pub fn is_made_of(bytes: &[u8], parts: &[&[u8]]) -> bool {
 
 /// A turn after which the connection goes on. What the server sends is in parts.
 #[derive(Clone, Copy)]
-pub enum Step<'a> {
+pub enum TalkCue<'a> {
     /// The server sends this.
     Hears(&'a [&'a [u8]]),
     /// A line is typed, and then the server sends this.
@@ -61,7 +61,7 @@ pub enum Step<'a> {
 /// A turn: what is typed, what the server sends, in parts, what follows that, how many bytes the stream takes, and how
 /// the turn ends.
 #[derive(Clone, Copy)]
-pub struct Turn<'a> {
+pub struct ScriptedTurn<'a> {
     pub typed: Option<&'a [u8]>,
     pub heard: &'a [&'a [u8]],
     pub after: After,
@@ -71,7 +71,7 @@ pub struct Turn<'a> {
 
 /// A client on one connection, the players that it knows, and what it has sent and printed. A stream gives it at most
 /// `most` bytes at once.
-pub struct Seat {
+pub struct TestSeat {
     pub client: Client,
     pub directory: Directory,
     pub sent: Text,
@@ -79,10 +79,10 @@ pub struct Seat {
     most: usize,
 }
 
-impl Seat {
+impl TestSeat {
     /// A client that has opened a connection.
-    pub fn open(most: usize) -> Seat {
-        Seat { client: opened(), directory: Directory::new(), sent: Text::new(), printed: Text::new(), most }
+    pub fn open(most: usize) -> TestSeat {
+        TestSeat { client: opened(), directory: Directory::new(), sent: Text::new(), printed: Text::new(), most }
     }
 
     /// One turn with a stream and a writer. It notes nothing of what is sent and printed.
@@ -112,7 +112,7 @@ impl Seat {
     }
 
     /// Takes a turn. It notes what is sent and printed.
-    fn take_turn(&mut self, turn: &Turn<'_>) {
+    fn take_turn(&mut self, turn: &ScriptedTurn<'_>) {
         let input = joined(turn.heard);
         let mut pipe = Pipe::new(&input, self.most, turn.after, turn.room);
         self.turn_with(&mut pipe, turn.typed, turn.kind);
@@ -120,17 +120,17 @@ impl Seat {
     }
 
     /// Takes a step. A read that comes after what the server sends fails so.
-    pub(crate) fn take(&mut self, step: Step<'_>, after: After) {
+    pub(crate) fn take(&mut self, step: TalkCue<'_>, after: After) {
         let (typed, heard) = match step {
-            Step::Hears(parts) => (None, parts),
-            Step::Types(typed, parts) => (Some(typed), parts),
+            TalkCue::Hears(parts) => (None, parts),
+            TalkCue::Types(typed, parts) => (Some(typed), parts),
         };
-        let turn = Turn { typed, heard, after, room: 4096, kind: Kind::Quiet };
+        let turn = ScriptedTurn { typed, heard, after, room: 4096, kind: Kind::Quiet };
         self.take_turn(&turn);
     }
 
     /// Takes steps one after another.
-    pub(crate) fn follow(&mut self, steps: &[Step<'_>], after: After) {
+    pub(crate) fn follow(&mut self, steps: &[TalkCue<'_>], after: After) {
         for step in steps {
             self.take(*step, after);
         }
@@ -138,7 +138,7 @@ impl Seat {
 
     /// The server sends this, in parts.
     pub(crate) fn hear(&mut self, parts: &[&[u8]]) {
-        self.take(Step::Hears(parts), QUIET);
+        self.take(TalkCue::Hears(parts), QUIET);
     }
 
     /// Asserts what was sent and printed in all, each in parts.
@@ -170,8 +170,8 @@ const CUTS: [(usize, After); 8] = [
 #[derive(Clone, Copy)]
 pub struct Talk<'a> {
     pub name: &'a str,
-    pub steps: &'a [Step<'a>],
-    pub last: Option<Turn<'a>>,
+    pub steps: &'a [TalkCue<'a>],
+    pub last: Option<ScriptedTurn<'a>>,
     pub sent: &'a [&'a [u8]],
     pub printed: &'a [&'a [u8]],
 }
@@ -184,7 +184,13 @@ pub fn assert_talks(talks: &[Talk<'_>]) {
 }
 
 /// Asserts what is sent and printed in a conversation, each in parts, and how its last turn ends, if there is one.
-pub fn assert_talk(name: &str, steps: &[Step<'_>], last: Option<Turn<'_>>, sent: &[&[u8]], printed: &[&[u8]]) {
+pub fn assert_talk(
+    name: &str,
+    steps: &[TalkCue<'_>],
+    last: Option<ScriptedTurn<'_>>,
+    sent: &[&[u8]],
+    printed: &[&[u8]],
+) {
     for cut in CUTS {
         assert_cut(cut, name, steps, last, sent, printed);
     }
@@ -194,12 +200,12 @@ pub fn assert_talk(name: &str, steps: &[Step<'_>], last: Option<Turn<'_>>, sent:
 fn assert_cut(
     (most, after): (usize, After),
     name: &str,
-    steps: &[Step<'_>],
-    last: Option<Turn<'_>>,
+    steps: &[TalkCue<'_>],
+    last: Option<ScriptedTurn<'_>>,
     sent: &[&[u8]],
     printed: &[&[u8]],
 ) {
-    let mut seat = Seat::open(most);
+    let mut seat = TestSeat::open(most);
     seat.follow(steps, after);
     if let Some(turn) = last {
         seat.take_turn(&turn);
@@ -210,7 +216,7 @@ fn assert_cut(
 /// How the first turn on a connection ends, in which lines are printed on `out`: what is typed, and what the server
 /// sends, in reads of at most `most` bytes. Nothing more comes then.
 pub fn first_turn_on<W: Write>(out: &mut W, most: usize, typed: Option<&[u8]>, heard: &[u8]) -> Kind {
-    let mut seat = Seat::open(most);
+    let mut seat = TestSeat::open(most);
     seat.print_on(out, typed, heard, QUIET)
 }
 

@@ -1,8 +1,8 @@
 //! Turns of a client with a stream in memory.
 
 use super::connected::{
-    Kind, Seat, Step, Talk, Turn, assert_at, assert_talk, assert_talks, assert_typed, first_turn_on, is_made_of,
-    repeated,
+    Kind, ScriptedTurn, Talk, TalkCue, TestSeat, assert_at, assert_talk, assert_talks, assert_typed, first_turn_on,
+    is_made_of, repeated,
 };
 use crate::fibs_connect::turns::{Ending, exchange};
 use crate::fibs_messages::{Reading, read as read_line};
@@ -62,42 +62,42 @@ const PRINTED: &[u8] = b"message 1 ann 1041253132 localhost\n\
 static ANSWERED: [Talk<'static>; 6] = [
     Talk {
         name: "a welcome",
-        steps: &[Step::Hears(&[WELCOME, END])],
+        steps: &[TalkCue::Hears(&[WELCOME, END])],
         last: None,
         sent: &[b"set boardstyle 3\r\n"],
         printed: &[b"message ", WELCOME, LF],
     },
     Talk {
         name: "no boards by themselves",
-        steps: &[Step::Hears(&[WELCOME, END, INFO_WITHOUT_BOARDS, END])],
+        steps: &[TalkCue::Hears(&[WELCOME, END, INFO_WITHOUT_BOARDS, END])],
         last: None,
         sent: &[b"set boardstyle 3\r\ntoggle autoboard\r\nboard\r\n"],
         printed: &[b"message ", WELCOME, LF, b"message ", INFO_WITHOUT_BOARDS, LF],
     },
     Talk {
         name: "a board of a game that is watched",
-        steps: &[Step::Hears(&[WATCHED, TO_ROLL, END])],
+        steps: &[TalkCue::Hears(&[WATCHED, TO_ROLL, END])],
         last: None,
         sent: &[],
         printed: &[WATCHED, TO_ROLL, LF],
     },
     Talk {
         name: "lines of other kinds",
-        steps: &[Step::Hears(&[b"5 bob\r\n3 x\r\n05 x\r\n\r\na\x1b\\\r\n> hi\r\r\n"])],
+        steps: &[TalkCue::Hears(&[b"5 bob\r\n3 x\r\n05 x\r\n\r\na\x1b\\\r\n> hi\r\r\n"])],
         last: None,
         sent: &[],
         printed: &[b"malformed 5 2 Missing\nmalformed 3 1 Extra\ntext 05 x\ntext \ntext a\\x1b\\x5c\ntext hi\\x0d\n"],
     },
     Talk {
         name: "a message as it was spelled",
-        steps: &[Step::Hears(&[b"5 bob - - 1 0 1500 0 3 1040515752 host - -  \r\n"])],
+        steps: &[TalkCue::Hears(&[b"5 bob - - 1 0 1500 0 3 1040515752 host - -  \r\n"])],
         last: None,
         sent: &[],
         printed: &[b"message 5 bob - - 1 0 1500 0 3 1040515752 host - -  \n"],
     },
     Talk {
         name: "a board after a telnet command that looks like a line end",
-        steps: &[Step::Hears(&[b"12 eve hi\xff\xfb\n", BOARD, TO_ROLL, END])],
+        steps: &[TalkCue::Hears(&[b"12 eve hi\xff\xfb\n", BOARD, TO_ROLL, END])],
         last: None,
         sent: &[],
         printed: &[b"message 12 eve hi", BOARD, TO_ROLL, LF],
@@ -106,7 +106,7 @@ static ANSWERED: [Talk<'static>; 6] = [
 
 static PLAYING: [Talk<'static>; 1] = [Talk {
     name: "a board of one who plays",
-    steps: &[Step::Hears(&[READY])],
+    steps: &[TalkCue::Hears(&[READY])],
     last: None,
     sent: &[SENT],
     printed: &[PRINTED],
@@ -126,7 +126,10 @@ fn lines_are_answered_and_printed() {
 static NOT_SHOWN: [Talk<'static>; 2] = [
     Talk {
         name: "a board that is shouted",
-        steps: &[Step::Hears(&[WELCOME, END, INFO, END, b"13 eve ", BOARD, TO_ROLL, END]), Step::Types(b"roll", &[])],
+        steps: &[
+            TalkCue::Hears(&[WELCOME, END, INFO, END, b"13 eve ", BOARD, TO_ROLL, END]),
+            TalkCue::Types(b"roll", &[]),
+        ],
         last: None,
         sent: &[SENT],
         printed: &[
@@ -136,7 +139,7 @@ static NOT_SHOWN: [Talk<'static>; 2] = [
     },
     Talk {
         name: "a board after a return",
-        steps: &[Step::Hears(&[b"12 eve hi\r", BOARD, TO_ROLL, END]), Step::Types(b"roll", &[])],
+        steps: &[TalkCue::Hears(&[b"12 eve hi\r", BOARD, TO_ROLL, END]), TalkCue::Types(b"roll", &[])],
         last: None,
         sent: &[],
         printed: &[b"message 12 eve hi\\x0d", BOARD, TO_ROLL, LF, b"refused 3 NotReady\n"],
@@ -151,7 +154,7 @@ fn a_board_within_a_line_is_not_shown() {
 
 static IN_THREE_TURNS: [Talk<'static>; 1] = [Talk {
     name: "a line in three turns",
-    steps: &[Step::Hears(&[b"1 ann 10412"]), Step::Hears(&[b"53132 local"]), Step::Hears(&[b"host\r\n"])],
+    steps: &[TalkCue::Hears(&[b"1 ann 10412"]), TalkCue::Hears(&[b"53132 local"]), TalkCue::Hears(&[b"host\r\n"])],
     last: None,
     sent: &[b"set boardstyle 3\r\n"],
     printed: &[b"message 1 ann 1041253132 localhost\n"],
@@ -187,7 +190,7 @@ static TYPED: [(&[u8], &[u8], &[u8]); 19] = [
 
 /// A line is typed when the client is ready, and the server is heard in the same turn.
 fn assert_answered(typed: &'static [u8], command: &'static [u8], answer: &'static [u8]) {
-    let steps = [Step::Hears(&[READY]), Step::Types(typed, &[b"hi\r\n"])];
+    let steps = [TalkCue::Hears(&[READY]), TalkCue::Types(typed, &[b"hi\r\n"])];
     let printed = [PRINTED, answer, b"text hi\n"];
     assert_talk("a typed line", &steps, None, &[SENT, command], &printed);
 }
@@ -203,9 +206,9 @@ fn typed_lines_are_answered() {
 static CONFIRMED: [Talk<'static>; 1] = [Talk {
     name: "a decision that is confirmed",
     steps: &[
-        Step::Hears(&[READY]),
-        Step::Types(b"roll", &[BOARD, TO_ROLL, END]),
-        Step::Types(b"roll", &[BOARD, ROLLED, END]),
+        TalkCue::Hears(&[READY]),
+        TalkCue::Types(b"roll", &[BOARD, TO_ROLL, END]),
+        TalkCue::Types(b"roll", &[BOARD, ROLLED, END]),
     ],
     last: None,
     sent: &[SENT, b"roll\r\n"],
@@ -230,15 +233,27 @@ fn a_decision_waits_for_its_board() {
 static LOST: [Talk<'static>; 2] = [
     Talk {
         name: "a decision that is lost",
-        steps: &[Step::Hears(&[READY])],
-        last: Some(Turn { typed: Some(b"roll"), heard: &[], after: After::End, room: 4096, kind: Kind::LostWaiting }),
+        steps: &[TalkCue::Hears(&[READY])],
+        last: Some(ScriptedTurn {
+            typed: Some(b"roll"),
+            heard: &[],
+            after: After::End,
+            room: 4096,
+            kind: Kind::LostWaiting,
+        }),
         sent: &[SENT, b"roll\r\n"],
         printed: &[PRINTED, b"sent roll\nlost roll\n"],
     },
     Talk {
         name: "a decision that is lost",
-        steps: &[Step::Hears(&[READY])],
-        last: Some(Turn { typed: Some(b"roll"), heard: &[], after: FAULT, room: 4096, kind: Kind::LostWaiting }),
+        steps: &[TalkCue::Hears(&[READY])],
+        last: Some(ScriptedTurn {
+            typed: Some(b"roll"),
+            heard: &[],
+            after: FAULT,
+            room: 4096,
+            kind: Kind::LostWaiting,
+        }),
         sent: &[SENT, b"roll\r\n"],
         printed: &[PRINTED, b"sent roll\nlost roll\n"],
     },
@@ -253,8 +268,8 @@ fn a_decision_that_waits_is_lost_with_its_connection() {
 static PLAYS: [Talk<'static>; 2] = [
     Talk {
         name: "a play",
-        steps: &[Step::Hears(&[WELCOME, END, INFO, END, GOING_UP, END])],
-        last: Some(Turn {
+        steps: &[TalkCue::Hears(&[WELCOME, END, INFO, END, GOING_UP, END])],
+        last: Some(ScriptedTurn {
             typed: Some(b"move 5-8 8-11 11-14"),
             heard: &[],
             after: FAULT,
@@ -275,8 +290,8 @@ static PLAYS: [Talk<'static>; 2] = [
     },
     Talk {
         name: "a play",
-        steps: &[Step::Hears(&[WELCOME, END, INFO, END, GOING_UP, END])],
-        last: Some(Turn {
+        steps: &[TalkCue::Hears(&[WELCOME, END, INFO, END, GOING_UP, END])],
+        last: Some(ScriptedTurn {
             typed: Some(b"move 20-17 17-14 14-11"),
             heard: &[],
             after: FAULT,
@@ -308,7 +323,7 @@ fn plays_are_in_the_numbers_of_the_board() {
 fn each_write_that_fails_ends_the_connection() {
     let wanted: &[u8] = b"set boardstyle 3\r\ntoggle autoboard\r\nboard\r\n";
     for room in 0..wanted.len() {
-        let last = Turn {
+        let last = ScriptedTurn {
             typed: None,
             heard: &[WELCOME, END, INFO_WITHOUT_BOARDS, END],
             after: QUIET,
@@ -321,8 +336,8 @@ fn each_write_that_fails_ends_the_connection() {
 }
 
 /// A turn in which a roll is typed, and the stream takes so many bytes of it.
-fn roll_lost(room: usize) -> Turn<'static> {
-    Turn { typed: Some(b"roll"), heard: &[], after: QUIET, room, kind: Kind::LostWaiting }
+fn roll_lost(room: usize) -> ScriptedTurn<'static> {
+    ScriptedTurn { typed: Some(b"roll"), heard: &[], after: QUIET, room, kind: Kind::LostWaiting }
 }
 
 /// The stream fails after each byte of a decision: it is lost, and nothing says that it was sent.
@@ -332,7 +347,7 @@ fn a_decision_that_is_not_written_is_lost() {
     for room in 0..command.len() {
         assert_talk(
             "a decision not written",
-            &[Step::Hears(&[READY])],
+            &[TalkCue::Hears(&[READY])],
             Some(roll_lost(room)),
             &[SENT, &command[..room]],
             &[PRINTED, b"lost roll\n"],
@@ -349,7 +364,7 @@ fn assert_cut_off(line: &[u8], after: After) {
 
 /// The connection is lost after these bytes, which end no line, and nothing else is printed.
 fn assert_lost_after(bytes: &[u8], after: After) {
-    let last = Turn { typed: None, heard: &[bytes], after, room: 4096, kind: Kind::Lost };
+    let last = ScriptedTurn { typed: None, heard: &[bytes], after, room: 4096, kind: Kind::Lost };
     assert_talk("a line that is cut off", &[], Some(last), &[], &[b"lost\n"]);
 }
 
@@ -375,7 +390,8 @@ static READ_ERRORS: [(ErrorKind, Kind, &[u8]); 6] = [
 #[test]
 fn errors_of_reads_are_told_apart() {
     for (error, kind, printed) in &READ_ERRORS {
-        let last = Turn { typed: None, heard: &[b"hi\r\n"], after: After::Fails(*error), room: 4096, kind: *kind };
+        let last =
+            ScriptedTurn { typed: None, heard: &[b"hi\r\n"], after: After::Fails(*error), room: 4096, kind: *kind };
         assert_talk("a read that fails", &[], Some(last), &[], &[printed]);
     }
 }
@@ -390,7 +406,7 @@ fn is_stopped(before: usize, room: usize) -> bool {
 
 /// How a turn up to the first board ends, and whether the client shows the board then.
 fn turn_to_board(out: &mut Pipe<'_>) -> (Kind, bool) {
-    let mut seat = Seat::open(1000);
+    let mut seat = TestSeat::open(1000);
     let kind = seat.print_on(out, None, READY, QUIET);
     (kind, seat.client.shown().is_some())
 }
@@ -411,7 +427,7 @@ fn each_print_that_fails_stops_the_turn() {
 }
 
 /// The server sends a line that is too long, whose end is a board.
-fn hear_long_line(seat: &mut Seat) {
+fn hear_long_line(seat: &mut TestSeat) {
     let prompts = repeated(b"> ", 8192);
     seat.hear(&[&prompts, BOARD, TO_ROLL, END]);
 }
@@ -419,14 +435,14 @@ fn hear_long_line(seat: &mut Seat) {
 /// A line that was cut is no board.
 #[test]
 fn a_line_that_is_too_long_is_cut() {
-    let mut seat = Seat::open(1000);
+    let mut seat = TestSeat::open(1000);
     hear_long_line(&mut seat);
     seat.assert_did("a line that is cut", &[], &[b"cut \n"]);
     assert!(seat.client.shown().is_none());
 }
 
 /// Two turns on one stream: after the first there is more to read, and in the second the stream ends.
-fn take_two_turns(seat: &mut Seat, line: &Text) {
+fn take_two_turns(seat: &mut TestSeat, line: &Text) {
     let input = joined(&[line.as_slice(), b"\nhi\n"]);
     let mut pipe = Pipe::new(&input, 1, After::End, 0);
     seat.turn_with(&mut pipe, None, Kind::Quiet);
@@ -437,7 +453,7 @@ fn take_two_turns(seat: &mut Seat, line: &Text) {
 /// After 4096 reads a turn is over, though there is more to read.
 #[test]
 fn a_turn_reads_4096_times() {
-    let mut seat = Seat::open(1);
+    let mut seat = TestSeat::open(1);
     let line = repeated(b"a", 4095);
     take_two_turns(&mut seat, &line);
     let printed = [b"text ", line.as_slice(), b"\ntext hi\nlost\n"];
@@ -498,7 +514,7 @@ fn fill(directory: &mut Directory) {
 
 #[test]
 fn a_directory_that_is_full_says_so() {
-    let mut seat = Seat::open(1000);
+    let mut seat = TestSeat::open(1000);
     fill(&mut seat.directory);
     seat.hear(&[b"5 p4096 - - 0 0 1500.00 0 0 0 host - -\r\n5 p7 - - 0 0 1500.00 0 0 0 host - -\r\n"]);
     seat.assert_did(
@@ -526,7 +542,7 @@ struct Came {
 
 /// Such a turn, with a line that is typed, if there is one, on a stream that is written to so.
 fn came_of(typed: Option<&[u8]>, output: FailsOnce) -> Came {
-    let mut seat = Seat::open(1000);
+    let mut seat = TestSeat::open(1000);
     let mut printed = Pipe::new(b"", 1, After::End, 512);
     let mut stream = Stumbles { input: Pipe::new(CALLING, 1000, QUIET, 0), output };
     let kind = seat.turn_on(&mut stream, typed, &mut printed);
@@ -567,13 +583,13 @@ fn nothing_is_sent_after_a_write_that_fails() {
 /// A line whose bytes come one a turn.
 #[test]
 fn a_stream_may_wait_between_any_two_bytes() {
-    let mut seat = Seat::open(1);
+    let mut seat = TestSeat::open(1);
     hear_bytes(&mut seat);
     seat.assert_did("one byte a turn", &[SENT], &[PRINTED]);
 }
 
 /// The server sends its lines up to the first board, one byte a turn.
-fn hear_bytes(seat: &mut Seat) {
+fn hear_bytes(seat: &mut TestSeat) {
     for at in 0..READY.len() {
         seat.hear(&[&READY[at..at + 1]]);
     }

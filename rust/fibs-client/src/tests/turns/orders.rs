@@ -1,5 +1,5 @@
 //! Standing orders to roll.
-use super::connected::{Kind, Step, Talk, Turn, assert_talk, assert_talks};
+use super::connected::{Kind, ScriptedTurn, Talk, TalkCue, assert_talk, assert_talks};
 use crate::fibs_test_tools::pipe::{FAULT, QUIET};
 
 const END: &[u8] = b"\r\n";
@@ -29,17 +29,23 @@ const GREETED: &[u8] = b"message 1 ann 1041253132 localhost\n\
 /// Lines that are typed one after another on one connection, and what is printed. A standing order is given once, and
 /// withdrawn if it was given. Neither sends anything.
 static TYPED: [Talk<'static>; 6] = [
-    Talk { name: "orders", steps: &[Step::Types(b"order roll", &[])], last: None, sent: &[], printed: &[b"ordered\n"] },
     Talk {
         name: "orders",
-        steps: &[Step::Types(b"order roll", &[]), Step::Types(b"order roll", &[])],
+        steps: &[TalkCue::Types(b"order roll", &[])],
+        last: None,
+        sent: &[],
+        printed: &[b"ordered\n"],
+    },
+    Talk {
+        name: "orders",
+        steps: &[TalkCue::Types(b"order roll", &[]), TalkCue::Types(b"order roll", &[])],
         last: None,
         sent: &[],
         printed: &[b"ordered\nrefused 11 AlreadyOrdered\n"],
     },
     Talk {
         name: "orders",
-        steps: &[Step::Types(b"withdraw roll", &[])],
+        steps: &[TalkCue::Types(b"withdraw roll", &[])],
         last: None,
         sent: &[],
         printed: &[b"refused 12 NotOrdered\n"],
@@ -47,10 +53,10 @@ static TYPED: [Talk<'static>; 6] = [
     Talk {
         name: "orders",
         steps: &[
-            Step::Types(b"order roll", &[]),
-            Step::Types(b"withdraw roll", &[]),
-            Step::Types(b"withdraw roll", &[]),
-            Step::Types(b"order roll", &[]),
+            TalkCue::Types(b"order roll", &[]),
+            TalkCue::Types(b"withdraw roll", &[]),
+            TalkCue::Types(b"withdraw roll", &[]),
+            TalkCue::Types(b"order roll", &[]),
         ],
         last: None,
         sent: &[],
@@ -59,11 +65,11 @@ static TYPED: [Talk<'static>; 6] = [
     Talk {
         name: "orders",
         steps: &[
-            Step::Types(b"order  roll", &[]),
-            Step::Types(b"order roll ", &[]),
-            Step::Types(b"order", &[]),
-            Step::Types(b"Order roll", &[]),
-            Step::Types(b"order double", &[]),
+            TalkCue::Types(b"order  roll", &[]),
+            TalkCue::Types(b"order roll ", &[]),
+            TalkCue::Types(b"order", &[]),
+            TalkCue::Types(b"Order roll", &[]),
+            TalkCue::Types(b"order double", &[]),
         ],
         last: None,
         sent: &[],
@@ -72,10 +78,10 @@ static TYPED: [Talk<'static>; 6] = [
     Talk {
         name: "orders",
         steps: &[
-            Step::Types(b"withdraw  roll", &[]),
-            Step::Types(b"withdraw roll ", &[]),
-            Step::Types(b"withdraw", &[]),
-            Step::Types(b" withdraw roll", &[]),
+            TalkCue::Types(b"withdraw  roll", &[]),
+            TalkCue::Types(b"withdraw roll ", &[]),
+            TalkCue::Types(b"withdraw", &[]),
+            TalkCue::Types(b" withdraw roll", &[]),
         ],
         last: None,
         sent: &[],
@@ -91,10 +97,10 @@ fn orders_are_given_and_withdrawn() {
 static ROLLS_ONCE: [Talk<'static>; 1] = [Talk {
     name: "one roll",
     steps: &[
-        Step::Hears(&[GREETING, BOARD, TO_ROLL, END]),
-        Step::Types(b"order roll", &[]),
-        Step::Types(b"board", &[BOARD, TO_ROLL, END, BOARD, TO_ROLL, END]),
-        Step::Types(b"roll", &[]),
+        TalkCue::Hears(&[GREETING, BOARD, TO_ROLL, END]),
+        TalkCue::Types(b"order roll", &[]),
+        TalkCue::Types(b"board", &[BOARD, TO_ROLL, END, BOARD, TO_ROLL, END]),
+        TalkCue::Types(b"roll", &[]),
     ],
     last: None,
     sent: &[SENT, b"board\r\nroll\r\n"],
@@ -122,8 +128,8 @@ fn an_order_rolls_once_a_board() {
 static SAID_LAST: [Talk<'static>; 1] = [Talk {
     name: "a roll that is confirmed",
     steps: &[
-        Step::Types(b"order roll", &[GREETING, BOARD, ROLLED, END]),
-        Step::Types(b"move 24-18 13-11", &[BOARD, TO_ROLL_FOR_TWO, END]),
+        TalkCue::Types(b"order roll", &[GREETING, BOARD, ROLLED, END]),
+        TalkCue::Types(b"move 24-18 13-11", &[BOARD, TO_ROLL_FOR_TWO, END]),
     ],
     last: None,
     sent: &[SENT, b"move 24-18 13-11\r\nroll\r\n"],
@@ -148,8 +154,8 @@ fn the_roll_is_said_last() {
 static NOT_DUE: [Talk<'static>; 1] = [Talk {
     name: "no roll",
     steps: &[
-        Step::Types(b"order roll", &[GREETING, BOARD, MAY_DOUBLE, END]),
-        Step::Types(b"withdraw roll", &[BOARD, TO_ROLL, END]),
+        TalkCue::Types(b"order roll", &[GREETING, BOARD, MAY_DOUBLE, END]),
+        TalkCue::Types(b"withdraw roll", &[BOARD, TO_ROLL, END]),
     ],
     last: None,
     sent: &[SENT],
@@ -166,8 +172,8 @@ fn an_order_that_is_not_due_sends_nothing() {
 }
 
 /// The turn in which the client rolls by itself is the last, and the stream takes so many bytes of it.
-fn roll_lost(room: usize) -> Turn<'static> {
-    Turn { typed: None, heard: &[BOARD, TO_ROLL, END], after: QUIET, room, kind: Kind::LostWaiting }
+fn roll_lost(room: usize) -> ScriptedTurn<'static> {
+    ScriptedTurn { typed: None, heard: &[BOARD, TO_ROLL, END], after: QUIET, room, kind: Kind::LostWaiting }
 }
 
 /// The stream fails after each byte of the roll: it is lost, and neither the board nor the roll is printed.
@@ -177,7 +183,7 @@ fn a_roll_that_is_not_written_is_lost() {
     for room in 0..command.len() {
         assert_talk(
             "a roll not written",
-            &[Step::Types(b"order roll", &[GREETING])],
+            &[TalkCue::Types(b"order roll", &[GREETING])],
             Some(roll_lost(room)),
             &[SENT, &command[..room]],
             &[b"ordered\n", GREETED, b"lost roll\n"],
@@ -188,8 +194,14 @@ fn a_roll_that_is_not_written_is_lost() {
 /// The turn in which the client rolls by itself is the last, and the connection is lost then.
 static LOST: [Talk<'static>; 1] = [Talk {
     name: "a roll that is lost",
-    steps: &[Step::Types(b"order roll", &[GREETING])],
-    last: Some(Turn { typed: None, heard: &[BOARD, TO_ROLL, END], after: FAULT, room: 4096, kind: Kind::LostWaiting }),
+    steps: &[TalkCue::Types(b"order roll", &[GREETING])],
+    last: Some(ScriptedTurn {
+        typed: None,
+        heard: &[BOARD, TO_ROLL, END],
+        after: FAULT,
+        room: 4096,
+        kind: Kind::LostWaiting,
+    }),
     sent: &[SENT, b"roll\r\n"],
     printed: &[b"ordered\n", GREETED, BOARD, TO_ROLL, b"\nphase RollOrDouble\nsent roll\nlost roll\n"],
 }];

@@ -1,5 +1,5 @@
 //! How the lines of a turn are printed.
-use super::connected::{Kind, Seat, assert_at, assert_typed, repeated};
+use super::connected::{Kind, TestSeat, assert_at, assert_typed, repeated};
 use crate::fibs_test_tools::pipe::{After, QUIET};
 use crate::fibs_test_tools::text::joined;
 use crate::rattle::io;
@@ -38,7 +38,7 @@ impl Write for Counts {
 
 /// How a turn of a ready client ends, with a line that is typed, and what the server sends.
 fn turn_when_ready(out: &mut Counts, typed: Option<&[u8]>, input: &[u8], after: After) -> Kind {
-    let mut seat = Seat::open(1000);
+    let mut seat = TestSeat::open(1000);
     seat.hear(&[READY]);
     seat.print_on(out, typed, input, after)
 }

@@ -1,10 +1,10 @@
 //! Which board is reported of a line: that of the line, and of no other.
 
 use super::connected::opened;
-use crate::fibs_connect::turns::talk;
 use crate::fibs_connect::fault::FrontFault;
 use crate::fibs_connect::front::Front;
 use crate::fibs_connect::said::Said;
+use crate::fibs_connect::turns::talk;
 use crate::fibs_position::GameBoard;
 use crate::fibs_session::Directory;
 use crate::fibs_test_tools::pipe::{Pipe, QUIET};
