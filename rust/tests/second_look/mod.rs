@@ -1,8 +1,12 @@
 //! A second look at the eraser, by another way: it compares lines, and knows no token and no form but how a proof
-//! begins.
+//! begins and the rules of `rules.rs`.
 //!
-//! A line that is in a source and in what is erased of it is the same code. Each other line is printed, but for `use`s
-//! and comments: with `-` if the source has it and it lies in no proof, with `+` if the erased text has it.
+//! What is erased is to have the lines of the source that lie in no proof, as the rules make them. Each line that differs
+//! is printed, but for `use`s and comments: with `-` if it is one of those, with `+` if the erased text has it.
+
+mod rules;
+
+use rules::{BODILESS, Counts, INSIDE, count, made};
 
 use std::collections::HashMap;
 use std::fs;
@@ -12,10 +16,10 @@ use std::path::{Path, PathBuf};
 const PROOFS: &[&str] =
     &["ghost ", "pub ghost ", "requires", "ensures", "#[tactic", "#![tactic", "#[derive(Drop)]", "impl Model for"];
 
-/// What is changed of the crates that are erased in a folder, but for files by hand, and how many lines of code are
-/// new.
-pub fn changed(crates: &Path, erased: &Path, names: &[&str], by_hand: &[(&str, &str, &str)]) -> (String, usize) {
-    let (mut told, mut count) = (String::new(), 0);
+/// What of the crates that are erased in a folder, but for files by hand, was made by the rules, and how often; and what
+/// was not.
+pub fn changed(crates: &Path, erased: &Path, names: &[&str], by_hand: &[(&str, &str, &str)]) -> String {
+    let (mut told, mut counts) = (String::new(), Counts::new());
     for name in names {
         for path in sources(&crates.join(name).join("src")) {
             let file = path.strip_prefix(crates.join(name).join("src")).unwrap().with_extension("rs");
@@ -24,18 +28,18 @@ pub fn changed(crates: &Path, erased: &Path, names: &[&str], by_hand: &[(&str, &
             }
             let file = if matches!(file.to_str(), Some("lib.rs" | "main.rs")) { "mod.rs".into() } else { file };
             let new = fs::read_to_string(erased.join(name).join(file)).unwrap();
-            let old = kept(&fs::read_to_string(&path).unwrap());
+            let old = made(kept(&fs::read_to_string(&path).unwrap(), &mut counts), &mut counts);
             let new: Vec<String> =
                 new.lines().map(|line| line.trim_end().into()).filter(|line: &String| !line.is_empty()).collect();
             let lines: Vec<String> = differing(&old, &new);
             if !lines.is_empty() {
                 let file = path.strip_prefix(crates).unwrap().display().to_string().replace('\\', "/");
                 told += &format!("{file}:\n{}\n", lines.join("\n"));
-                count += lines.iter().filter(|line| line.starts_with("  + ")).count();
             }
         }
     }
-    (told, count)
+    let rules: String = counts.iter().map(|(rule, count)| format!("{count:5} {rule}\n")).collect();
+    format!("How often each rule makes another line of one of the sources:\n{rules}\nLines that no rule makes:\n{told}")
 }
 
 fn sources(folder: &Path) -> Vec<PathBuf> {
@@ -47,13 +51,21 @@ fn sources(folder: &Path) -> Vec<PathBuf> {
 }
 
 /// The lines of a source that are in no proof. A bracket that stands alone after clauses ends the line before them.
-fn kept(source: &str) -> Vec<String> {
-    let (mut lines, mut open, mut is_proof) = (Vec::<String>::new(), 0, false);
+fn kept(source: &str, counts: &mut Counts) -> Vec<String> {
+    let (mut lines, mut open, mut is_proof, mut is_clause) = (Vec::<String>::new(), 0, false, false);
     for line in source.lines().map(str::trim_end).filter(|line| !line.is_empty()) {
         let text = line.trim_start();
         if open == 0 {
             let was_clause = is_proof && !line.starts_with('#');
             is_proof = PROOFS.iter().any(|begins| text.starts_with(begins));
+            is_clause = ["requires", "ensures"].iter().any(|begins| text.starts_with(begins));
+            let function = lines.iter_mut().rev().find(|line| line.contains("fn "));
+            if text.starts_with("requires")
+                && let Some(name) = function.filter(|line| line.starts_with("    pub fn "))
+            {
+                count(counts, INSIDE);
+                *name = name.replacen("pub ", "pub(crate) ", 1);
+            }
             if was_clause && matches!(text, "{" | "{}") {
                 while lines.last().is_some_and(|last| last.trim_start().starts_with("// ")) {
                     lines.pop();
@@ -63,8 +75,12 @@ fn kept(source: &str) -> Vec<String> {
             }
         }
         if is_proof {
-            let count = |marks: [char; 3]| text.chars().filter(|c| marks.contains(c)).count() as i64;
-            open += count(['(', '[', '{']) - count([')', ']', '}']);
+            let marked = |marks: [char; 3]| text.chars().filter(|c| marks.contains(c)).count() as i64;
+            open += marked(['(', '[', '{']) - marked([')', ']', '}']);
+            if is_clause && open == 0 && text.ends_with(';') {
+                count(counts, BODILESS);
+                *lines.last_mut().unwrap() += ";";
+            }
         } else {
             lines.push(line.into());
         }
