@@ -1,6 +1,6 @@
 //! The legal plays of backgammon in plain Rust over std alone, without proofs: written from the rules, and from nothing
 //! that is proved. `plain_plays.rs` lists plays by them, the peer of `fibs_bench plays`; `assurance/plain_replay.rs`
-//! judges clicks; `rust/src/tests` compares the list of a position with theirs.
+//! judges clicks; `rust/tests/plays.rs` compares the lists of positions with theirs.
 
 use std::convert::TryInto;
 

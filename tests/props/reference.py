@@ -236,6 +236,11 @@ class Board:
 
 # ---- What `fibs plays` prints -------------------------------------------------------------------------------------
 
+def plays_of(line):
+    """The plays that are listed of a board, by their steps: none if the player does not move."""
+    board = Board(line)
+    return greatest_plays(board.position(), board.dice()) if board.phase() == 'Move' else []
+
 OBJECT = re.compile(rb'\{"kind":"board","line":"([ !#-\[\]-~]*)".*\}', re.S)
 
 def told_line(word):
@@ -255,8 +260,7 @@ def plays(word):
     if not board.is_good():
         return b'', 3, b'position %s\n' % board.fault().encode()
     out = [b'phase ' + board.phase().encode()]
-    if board.phase() == 'Move':
-        out += [print_decision(play, board) for play in greatest_plays(board.position(), board.dice())]
+    out += [print_decision(play, board) for play in plays_of(line)]
     return b''.join(text + b'\n' for text in out), 0, b''
 
 # ---- Commands -----------------------------------------------------------------------------------------------------

@@ -1,10 +1,10 @@
 """Boards by worked lines."""
 
 from checks import answer, fibs, test
+from props.table import NAMED
 
 # A board line as the server sends it.
-LINE = (b'board:You:someplayer:3:0:1:0:-2:0:0:0:0:5:0:3:0:0:0:-5:5:0:0:0:-3:0:-5:0:0:0:0:2:0:1:6:2:0:0:1:1:1:0:1:-1:0:'
-        b'25:0:0:0:0:2:0:0:0')
+LINE = NAMED['AS_SENT']
 
 
 def line_with(field, text):

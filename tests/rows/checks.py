@@ -49,12 +49,9 @@ def answer(call, *words):
 
 
 def allowed(board, decision):
-    """0 if a decision may be made on a board, or the status that says why not."""
-    try:
-        why = fibs.refusal(board, decision)
-    except fibs.Error as error:
-        why = error
-    return why.status if why else 0
+    """'' if a decision may be made on a board, or the name of the status that says why not."""
+    why = answer(fibs.refusal, board, decision)
+    return getattr(why, 'name', why or '')
 
 
 def phase_of(board):

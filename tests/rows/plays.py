@@ -1,61 +1,9 @@
-"""Plays: turns by the rules, and random boards beside a slow program."""
-
-from collections import namedtuple
+"""Plays: the turns of `turns.txt`, and random boards beside a slow program."""
 
 from checks import allowed, answer, phase_of, read_decision, test
-from positions import DONE, ILLEGAL_PLAY, NOT_YOURS, WRONG_KIND, listed, move_of, reference, steps_of
-
-# A turn: the player's checkers by place and count, and those of the other side, the rest of both being off; the dice
-# shown, 0 for none; its plays, in descending order; plays that are no legal ones.
-Turn = namedtuple('Turn', 'name own other dice plays refused')
-
-TURNS = [
-    Turn('either die can be played and not both: the larger', '24:1', '13:2', (6, 5), ['24-18'],
-         ['24-19', '24-13', '']),
-    Turn('the same, the larger die second', '24:1', '13:2', (5, 6), ['24-18'], ['24-19']),
-    Turn('the larger die is blocked', '24:1', '18:2 13:2', (6, 5), ['24-19'], ['24-18']),
-    Turn('both, the smaller first', '24:1', '18:2', (6, 5), ['24-19 19-13'], ['24-19']),
-    Turn('one die, by one of two checkers', '24:1 10:1', '14:2 6:2 4:2', (6, 4), ['24-18'], ['24-20']),
-    Turn('one die is shown, first', '24:1', '13:2', (6, 0), ['24-18'], ['24-19']),
-    Turn('one die is shown, second', '24:1', '13:2', (0, 5), ['24-19'], ['24-18']),
-    Turn('no die is shown', '24:2', '', (0, 0), [''], ['24-23']),
-    Turn('one of two enters by the larger die', '25:2 6:13', '24:2', (3, 1), ['bar-22'], ['bar-22 6-5', '6-3']),
-    Turn('one of two enters by the smaller die', '25:2 6:13', '22:2', (3, 1), ['bar-24'], ['bar-22']),
-    Turn('both enter', '25:2 6:13', '', (3, 1), ['bar-24 bar-22'], ['bar-22 6-5']),
-    Turn('one enters, and then any goes', '25:1 8:1', '', (2, 1), ['bar-24 24-22', 'bar-24 8-6', 'bar-23 8-7'],
-         ['8-6 bar-24']),
-    Turn('no entry', '25:1 6:14', '19:2 20:2 21:2 22:2 23:2 24:2', (3, 1), [''], ['6-5 6-3', 'bar-24']),
-    Turn('the highest goes off by a larger die', '3:1 2:1', '13:2', (6, 5), ['3-off 2-off'], ['2-off 3-off']),
-    Turn('not the lower one while a checker is higher', '6:1 2:1', '', (5, 4), ['6-2 2-off', '6-1 2-off'],
-         ['2-off 6-2']),
-    Turn('any goes off by the die that is its place', '6:1 4:1 1:1', '', (4, 1),
-         ['6-5 5-1', '6-5 4-off', '6-2 4-3', '6-2 1-off', '4-off 1-off'], []),
-    Turn('not off before all are home', '7:1 2:1', '', (6, 1), ['7-6 6-off', '7-1 2-1'], ['2-off 7-6']),
-    Turn('home and off, in either order', '7:1', '24:2', (6, 3), ['7-4 4-off'], ['7-1']),
-    Turn('the last checker', '1:1', '', (6, 6), ['1-off'], ['']),
-    Turn('three of four', '20:1', '8:2', (3, 3), ['20-17 17-14 14-11'], ['20-17 17-14']),
-    Turn('two of four, by two checkers', '13:1 12:1', '5:2 4:2', (4, 4), ['13-9 12-8'], ['13-9']),
-    Turn('three enter, and then any goes', '25:3 6:12', '17:2', (4, 4), ['bar-21 bar-21 bar-21 6-2'],
-         ['bar-21 bar-21 6-2 6-2']),
-    Turn('three enter, and none goes on', '25:3 6:12', '17:2 2:2', (4, 4), ['bar-21 bar-21 bar-21'],
-         ['bar-21 bar-21']),
-    Turn('a hit', '24:1', '18:1 12:2', (6, 6), ['24-18'], ['24-18 18-12']),
-    Turn('both orders reach one arrangement', '24:1', '2:2', (6, 5), ['24-19 19-13'], []),
-    Turn('not the same one if one order hits', '24:1', '18:1 2:2', (6, 5), ['24-19 19-13', '24-18 18-13'], []),
-    Turn('two checkers, four arrangements', '8:1 4:1', '24:2', (2, 1), ['8-7 7-5', '8-7 4-2', '8-6 4-3', '4-3 3-1'],
-         []),
-    Turn('two checkers by four ones', '8:1 4:1', '24:2', (1, 1),
-         ['8-7 7-6 6-5 5-4', '8-7 7-6 6-5 4-3', '8-7 7-6 4-3 3-2', '8-7 4-3 3-2 2-1'], ['8-7 7-6 6-5']),
-]
-
-
-def counts(checkers):
-    """How many checkers are on each place, as `24:2 18:1` says."""
-    found = [0] * 26
-    for pair in checkers.split():
-        place, count = pair.split(':')
-        found[int(place)] = int(count)
-    return found
+from positions import listed, move_of
+from props import reference
+from props.table import TURNS
 
 
 def board_with(own, other, dice, side, down):
@@ -70,24 +18,23 @@ def board_with(own, other, dice, side, down):
 # Both colours, in both directions.
 SIDES = [(1, True), (1, False), (-1, True), (-1, False)]
 
-REFUSED = {'Move': ILLEGAL_PLAY, 'Passing': NOT_YOURS, 'RollOrDouble': WRONG_KIND}
+REFUSED = {'Move': 'IllegalPlay', 'Passing': 'NotYours', 'RollOrDouble': 'WrongKind'}
 
 
 @test
 def plays_by_the_rules(check):
     for turn in TURNS:
         # If no checker can move, the one play by the rules has no step, and a board has none.
-        wanted = [steps_of(play) for play in turn.plays if play]
+        wanted = [play for play in turn.plays if play]
         phase = 'RollOrDouble' if turn.dice == (0, 0) else 'Move' if wanted else 'Passing'
         for side, down in SIDES:
-            board = board_with(counts(turn.own), counts(turn.other), turn.dice, side, down)
+            board = board_with(turn.own, turn.other, turn.dice, side, down)
             check(phase_of(board), phase, '%s: the phase' % turn.name)
             check(answer(listed, board), wanted, '%s: the list' % turn.name)
             for play in wanted:
-                check(allowed(board, move_of(play)), DONE, '%s: each is legal' % turn.name)
+                check(allowed(board, move_of(play)), '', '%s: each is legal' % turn.name)
             for play in turn.refused:
-                status = allowed(board, move_of(steps_of(play)))
-                check(status, REFUSED[phase], '%s: refused: %s' % (turn.name, play))
+                check(allowed(board, move_of(play)), REFUSED[phase], '%s: refused: %s' % (turn.name, play))
 
 
 @test
@@ -185,5 +132,5 @@ def finds_what_a_slow_program_finds(check):
             wanted = reference.greatest_plays(board.position(), board.dice()) if can_move else []
             check(answer(listed, line), wanted, case)
             for play in fronts([*legal, *in_order(board.position(), sorted(dice))]):
-                status = NOT_YOURS if not can_move else DONE if play in legal else ILLEGAL_PLAY
-                check(allowed(line, move_of(play)), status, '%s: %s' % (case, play))
+                why = 'NotYours' if not can_move else '' if play in legal else 'IllegalPlay'
+                check(allowed(line, move_of(play)), why, '%s: %s' % (case, play))

@@ -1,31 +1,13 @@
-"""Positions: the phase of a board, what may be decided on it, and when the game has gone on. rust/src/tests has
-worked boards with plays."""
+"""Positions: the boards of `boards.txt`, and when the game has gone on."""
 
-import sys
-from collections import namedtuple
-
-from checks import ROOT, allowed, answer, fibs, phase_of, test
-from fibs import _library
-
-sys.path.insert(0, str(ROOT / 'tests'))
-
-from props import reference  # noqa: E402
-
-DONE, NOT_YOURS, WRONG_KIND, ILLEGAL_PLAY = 0, 7, 8, 9
-NOT_YOU, TOO_MANY_OWN, TOO_MANY_OTHER = 201, 202, 203
+from checks import allowed, answer, fibs, phase_of, test
+from props import reference
+from props.table import NAMED, ROWS, Wrong, rows, steps_of, turns
 
 WORDS = {'roll': fibs.ROLL, 'double': fibs.DOUBLE, 'accept': fibs.ACCEPT, 'reject': fibs.REJECT,
          'resign n': fibs.RESIGN_NORMAL, 'resign g': fibs.RESIGN_GAMMON, 'resign b': fibs.RESIGN_BACKGAMMON}
-ENDS = {'bar': 25, 'off': 0}
 
-
-def steps_of(play):
-    """The steps of a play, such as `bar-22 6-off`."""
-    return tuple(tuple(ENDS[end] if end in ENDS else int(end) for end in step.split('-')) for step in play.split())
-
-
-def move_of(play):
-    return fibs.Decision.move(play)
+move_of = fibs.Decision.move
 
 
 def decision_of(text):
@@ -40,76 +22,78 @@ def listed(board):
     return [play.steps for play in fibs.plays(board)]
 
 
-# A board on which nothing can be played, its phase, and the answers to some decisions.
-Row = namedtuple('Row', 'name board phase answers')
+def seen_on(line):
+    """What a player sees on a board: the phase, where he goes, and the checkers of both by his own numbers."""
+    board = fibs.Board(line)
+    direction = 'up' if board.direction == 1 else 'down'
+    return phase_of(line), direction, list(board.checkers), list(reversed(board.opponent_checkers))
 
-ANSWERS = [
-    Row('a double can be accepted',
-        b'board:You:bob:3:0:1:0:-2:0:0:0:0:5:0:3:0:0:0:-5:5:0:0:0:-3:0:-5:0:0:0:0:2:0:'
-        b'1:0:0:0:0:524288:1:1:1:1:-1:0:25:0:0:0:0:0:0:0:0',
-        'AnswerDouble',
-        [('accept', DONE), ('double', WRONG_KIND), ('reject', DONE), ('move', WRONG_KIND)]),
-    Row('the player may not double',
-        b'board:You:bob:3:0:1:0:-2:0:0:0:0:5:0:3:0:0:0:-5:5:0:0:0:-3:0:-5:0:0:0:0:2:0:'
-        b'1:0:0:0:0:1:0:1:0:1:-1:0:25:0:0:0:0:0:0:0:0',
-        'RollOrDouble',
-        [('roll', DONE), ('double', WRONG_KIND)]),
-    Row('the cube is full',
-        b'board:You:bob:3:0:1:0:-2:0:0:0:0:5:0:3:0:0:0:-5:5:0:0:0:-3:0:-5:0:0:0:0:2:0:'
-        b'1:0:0:0:0:1048576:1:1:0:1:-1:0:25:0:0:0:0:0:0:0:0',
-        'RollOrDouble',
-        [('roll', DONE), ('double', WRONG_KIND)]),
-    Row('the last double',
-        b'board:You:bob:3:0:1:0:-2:0:0:0:0:5:0:3:0:0:0:-5:5:0:0:0:-3:0:-5:0:0:0:0:2:0:'
-        b'1:0:0:0:0:524288:1:1:0:1:-1:0:25:0:0:0:0:0:0:0:0',
-        'RollOrDouble',
-        [('double', DONE)]),
-    Row("the opponent's turn",
-        b'board:You:bob:3:0:1:0:-2:0:0:0:0:5:0:3:0:0:0:-5:5:0:0:0:-3:0:-5:0:0:0:0:2:0:'
-        b'-1:0:0:0:0:1:1:1:0:1:-1:0:25:0:0:0:0:0:0:0:0',
-        'OpponentActs',
-        [('roll', NOT_YOURS), ('resign n', NOT_YOURS)]),
-    Row('the game is over',
-        b'board:You:bob:3:0:1:0:-2:0:0:0:0:5:0:3:0:0:0:-5:5:0:0:0:-3:0:-5:0:0:0:0:2:0:'
-        b'0:0:0:0:0:1:1:1:0:1:-1:0:25:0:0:0:0:0:0:0:0',
-        'Over',
-        [('roll', NOT_YOURS), ('move', NOT_YOURS), ('resign n', NOT_YOURS)]),
-]
+
+def after(line, text, dice):
+    """The line of the board after a decision."""
+    return fibs.Board(line).after(decision_of(text), dice).line
+
+
+def wanted_after(row, becomes):
+    """The line of the board that a row says, or why there is none."""
+    if becomes is None:
+        return 'NoEffect'
+    return NAMED[becomes] if isinstance(becomes, str) else reference.Board(row.board).with_fields(becomes).printed
 
 
 @test
-def answers(check):
-    for row in ANSWERS:
-        check(phase_of(row.board), row.phase, '%s: the phase' % row.name)
-        check(answer(listed, row.board), [], '%s: the plays' % row.name)
-        for text, status in row.answers:
-            check(allowed(row.board, decision_of(text)), status, '%s: %s' % (row.name, text))
+def boards_are_as_worked_out(check):
+    for row in ROWS:
+        line = row.board
+        if row.fault:
+            for call in (phase_of, listed, lambda line: after(line, 'roll', (1, 1))):
+                check(answer(call, line), row.fault, row.name)
+            check(allowed(line, fibs.ROLL), row.fault, '%s: a roll' % row.name)
+            continue
+        check(answer(seen_on, line), row.seen, '%s: what is seen' % row.name)
+        plays = answer(listed, line)
+        check(plays, reference.plays_of(line), '%s: the plays of the reference' % row.name)
+        if row.plays is not None:
+            check(plays, row.plays, '%s: the plays' % row.name)
+        if row.count is not None:
+            check(len(plays), row.count, '%s: how many plays' % row.name)
+        for text, why in row.answers:
+            check(allowed(line, decision_of(text)), why, '%s: %s' % (row.name, text))
+        for text, dice, becomes in row.effects:
+            check(answer(after, line, text, dice), wanted_after(row, becomes), '%s: after %s' % (row.name, text))
 
 
-START = b'board:You:bob:3:0:1:0:-2:0:0:0:0:5:0:3:0:0:0:-5:5:0:0:0:-3:0:-5:0:0:0:0:2:0:'
-BEFORE_ROLL = START + b'1:0:0:0:0:1:1:1:0:1:-1:0:25:0:0:0:0:0:0:0:0'
-
-# Boards without a position.
-BAD = [
-    ('watched, and too many', b'board:ann:bob' + START[13:] + b'1:0:0:0:0:1:1:1:0:1:-1:0:25:1:1:0:0:0:0:0:0', NOT_YOU),
-    ('too many of both', START + b'1:0:0:0:0:1:1:1:0:1:-1:0:25:1:1:0:0:0:0:0:0', TOO_MANY_OWN),
-    ('too many of the player', START[:-5] + b':3:0:1:0:0:0:0:1:1:1:0:1:-1:0:25:0:0:0:0:0:0:0:0', TOO_MANY_OWN),
-    ('too many of the opponent', START + b'1:0:0:0:0:1:1:1:0:1:-1:0:25:0:1:0:0:0:0:0:0', TOO_MANY_OTHER),
-]
+def why_wrong(read, text):
+    """Where a table is wrong."""
+    try:
+        return len(read(text))
+    except Wrong as why:
+        return str(why).partition(': ')[0]
 
 
 @test
-def refuses_boards(check):
-    for name, board, status in BAD:
-        why = _library.status_name(status)
-        check(phase_of(board), why, '%s: the phase' % name)
-        check(answer(fibs.plays, board), why, '%s: the plays' % name)
-        check(allowed(board, fibs.ROLL), status, '%s: a roll' % name)
+def the_line_of_a_table_that_is_wrong_is_named(check):
+    board = '= a board\nboard:You\nno position: NotYou\n'
+    for read, text, where in [
+        (rows, 'board:You', 'boards.txt:1'),
+        (rows, board + 'roll 6 2 -> 34:6', 'boards.txt:4'),
+        (rows, board + 'no position: NotYou', 'boards.txt:4'),
+        (rows, board + 'allowed roll', 'boards.txt:4'),
+        (rows, board + '= the same\nboard:You', 'boards.txt:5'),
+        (rows, '= a board\nboard:You\nallowed: roll', 'boards.txt'),
+        (rows, board, 1),
+        (turns, 'a turn | 24:1 | 13:2 | 6 5 | 24-18', 'turns.txt:1'),
+        (turns, '\na turn | 24:1 | 13:2 | 6 5 | 24-18 | none | none', 'turns.txt:2'),
+        (turns, 'a turn | 24 | 13:2 | 6 5 | 24-18 | none', 'turns.txt:1'),
+        (turns, 'a turn | 24:1 | 13:2 | 6 5 | 24 | none', 'turns.txt:1'),
+    ]:
+        check(why_wrong(read, text), where, text)
 
+
+BEFORE_ROLL = NAMED['TO_ROLL']
 
 # A checker of each side is on the bar, so that one more on a place or off leaves fifteen at most.
-TWO_ON_THE_BAR = (b'board:You:bob:3:0:1:0:-1:0:0:0:0:5:0:3:0:0:0:-5:5:0:0:0:-3:0:-5:0:0:0:0:1:0:'
-                  b'1:0:0:0:0:1:1:1:0:1:-1:0:25:0:0:0:0:0:0:0:0')
+TWO_ON_THE_BAR = reference.Board(BEFORE_ROLL).with_fields({8: -1, 31: 1}).printed
 
 # The fields of the game part.
 GAME_FIELDS = {

@@ -1,57 +1,28 @@
-"""Boards and messages of the server for the tests beside."""
+"""Boards and messages of the server for the tests beside: those of rust/src/tests/boards.txt by their names, and more."""
 
-# The beginning of a game, and an ending in which one checker is left: fields 1 to 32 of a board.
-START = 'board:You:bob:3:0:1:0:-2:0:0:0:0:5:0:3:0:0:0:-5:5:0:0:0:-3:0:-5:0:0:0:0:2:0:'
-ENDING = 'board:You:bob:5:0:0:0:0:0:0:0:0:0:0:0:0:0:0:0:-2:0:0:0:0:0:0:0:0:0:0:1:0:'
+from props import table
 
-# The user, who goes down, rolls or doubles.
-TO_ROLL = START + '1:0:0:0:0:1:1:1:0:1:-1:0:25:0:0:0:0:0:0:0:0'
+# The boards of the table.
+NAMED = {name: board.decode() for name, board in table.NAMED.items()}
 
-# The same game: field 50 alone is another.
-TO_ROLL_AGAIN = START + '1:0:0:0:0:1:1:1:0:1:-1:0:25:0:0:0:0:1:0:0:0'
 
-# The same, but he may not double.
-MUST_ROLL = START + '1:0:0:0:0:1:0:1:0:1:-1:0:25:0:0:0:0:0:0:0:0'
+def changed(name, changes):
+    """A board of the table with these fields changed."""
+    fields = NAMED[name].split(':')
+    return ':'.join(str(changes.get(n, field)) for n, field in enumerate(fields, 1))
 
-# The same game: field 50 alone is another.
-MUST_ROLL_AGAIN = START + '1:0:0:0:0:1:0:1:0:1:-1:0:25:0:0:0:0:1:0:0:0'
+
+# The same games: field 50 alone is another.
+TO_ROLL_AGAIN, MUST_ROLL_AGAIN = changed('TO_ROLL', {50: 1}), changed('MUST_ROLL', {50: 1})
 
 # Another game: the player has a point.
-MUST_ROLL_SCORED = ('board:You:bob:3:1:1:0:-2:0:0:0:0:5:0:3:0:0:0:-5:5:0:0:0:-3:0:-5:0:0:0:0:2:0:'
-                    '1:0:0:0:0:1:0:1:0:1:-1:0:25:0:0:0:0:0:0:0:0')
-
-# He has rolled 6 and 2, and might not double.
-ROLLED = START + '1:6:2:0:0:1:0:1:0:1:-1:0:25:0:0:0:0:0:0:0:0'
+MUST_ROLL_SCORED = changed('MUST_ROLL', {5: 1})
 
 # He has moved 24-18 13-11 there.
-WALKED = ('board:You:bob:3:0:1:0:-2:0:0:0:0:5:0:3:0:0:1:-5:4:0:0:0:-3:1:-5:0:0:0:0:1:0:'
-          '-1:0:0:0:0:1:0:1:0:1:-1:0:25:0:0:0:0:0:0:0:0')
+WALKED = changed('ROLLED', {18: 1, 20: 4, 25: 1, 31: 1, 33: -1, 34: 0, 35: 0})
 
-# He may not double, with the cube at its limit.
-CUBE_AT_LIMIT = START + '1:0:0:0:0:1048576:0:1:0:1:-1:0:25:0:0:0:0:0:0:0:0'
-
-# He may double by the board, with the cube at its limit.
-MAY_DOUBLE_AT_LIMIT = START + '1:0:0:0:0:1048576:1:1:0:1:-1:0:25:0:0:0:0:0:0:0:0'
-
-# He has rolled 6 and 2.
-TO_MOVE = START + '1:6:2:0:0:1:1:1:0:1:-1:0:25:0:0:0:0:0:0:0:0'
-
-# He has doubled: the opponent's turn.
-DOUBLED = START + '-1:0:0:0:0:1:1:1:0:1:-1:0:25:0:0:0:0:0:0:0:0'
-
-# He is doubled, with the cube at its limit.
-TO_ANSWER = START + '1:0:0:0:0:1048576:1:1:1:1:-1:0:25:0:0:0:0:0:0:0:0'
-
-# He has rolled 6 and 5, and the larger alone is to be played.
-ONE_STEP = ENDING + '1:6:5:0:0:1:1:1:0:1:-1:0:25:14:13:0:0:1:0:0:0'
-
-# He has played it.
-STEPPED = ('board:You:bob:5:0:0:0:0:0:0:0:0:0:0:0:0:0:0:0:-2:0:0:0:0:1:0:0:0:0:0:0:0:'
-           '-1:0:0:0:0:1:1:1:0:1:-1:0:25:14:13:0:0:1:0:0:0')
-
-# A board of another player.
-OF_OTHERS = ('board:ann:bob:3:0:1:0:-2:0:0:0:0:5:0:3:0:0:0:-5:5:0:0:0:-3:0:-5:0:0:0:0:2:0:'
-             '1:0:0:0:0:1:1:1:0:1:-1:0:25:0:0:0:0:0:0:0:0')
+# The cube is at its limit: he may not double, or he may by the board.
+CUBE_AT_LIMIT, MAY_DOUBLE_AT_LIMIT = changed('MUST_ROLL', {38: 1048576}), changed('TO_ROLL', {38: 1048576})
 
 # Message 1.
 WELCOME = '1 ann 1041253132 localhost'
@@ -70,7 +41,7 @@ INFO_NO_MOREBOARDS = '2 ann 1 1 0 0 0 0 1 1 10 0 0 0 1 1500.00 0 0 0 0 0 UTC'
 INFO_NO_BOARDS = '2 ann 1 0 0 0 0 0 1 1 10 0 0 0 1 1500.00 0 0 0 0 0 UTC'
 
 # Two parts of a line.
-HALF, REST = TO_ROLL[:24], TO_ROLL[24:]
+HALF, REST = NAMED['TO_ROLL'][:24], NAMED['TO_ROLL'][24:]
 
 # Each of them by its name.
-NAMED = {name: line for name, line in vars().items() if name.isupper()}
+NAMED.update({name: line for name, line in vars().items() if name.isupper() and name != 'NAMED'})

@@ -2,7 +2,6 @@
 
 use crate::fibs_commands::{Plain, PlainFault, decision_text, plain_text, read_command, read_plain};
 use crate::fibs_position::{Decision, Direction, Stake};
-use crate::tests::choices::Choice;
 
 /// Plain commands and their texts.
 static PRINTED: [(Plain<'static>, &str); 18] = [
@@ -139,14 +138,14 @@ fn lines_are_read_as_plain_commands_by_their_fields() {
 }
 
 /// Decisions, and their commands.
-static DECISIONS: [(Choice, &str); 7] = [
-    (Choice::Roll, "roll"),
-    (Choice::Double, "double"),
-    (Choice::Accept, "accept"),
-    (Choice::Reject, "reject"),
-    (Choice::Resign(Stake::Normal), "resign n"),
-    (Choice::Resign(Stake::Gammon), "resign g"),
-    (Choice::Resign(Stake::Backgammon), "resign b"),
+static DECISIONS: [(Decision, &str); 7] = [
+    (Decision::Roll, "roll"),
+    (Decision::Double, "double"),
+    (Decision::Accept, "accept"),
+    (Decision::Reject, "reject"),
+    (Decision::Resign(Stake::Normal), "resign n"),
+    (Decision::Resign(Stake::Gammon), "resign g"),
+    (Decision::Resign(Stake::Backgammon), "resign b"),
 ];
 
 /// Whether a decision's command is displayed so.
@@ -157,9 +156,8 @@ fn is_displayed(decision: &Decision, text: &str) -> bool {
 
 #[test]
 fn commands_are_displayed_as_their_texts() {
-    for (choice, text) in &DECISIONS {
-        let decision = choice.decision().expect("it is a decision");
-        assert!(is_displayed(&decision, text), "{text}");
+    for (decision, text) in &DECISIONS {
+        assert!(is_displayed(decision, text), "{text}");
     }
 }
 

@@ -4,23 +4,18 @@
 //! `crates/fibs_tests`.
 #![allow(clippy::type_complexity, clippy::needless_range_loop)]
 
-mod board_effects;
-mod board_moves;
 mod boards;
-mod cases;
-mod choices;
 mod client;
 mod commands;
 mod copied_lines;
 mod directory;
 mod fields;
-mod known_boards;
 mod lines;
 mod messages;
-mod plays;
 mod positions;
 mod server;
 mod server_lines;
+mod table;
 mod turns;
 mod wire;
 mod world;

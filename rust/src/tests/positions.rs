@@ -1,281 +1,109 @@
-//! Worked rows of positions: the phase, how many dice are played at most, the plays, and what may be decided; and the
-//! answers to boards that have no position, or another player.
+//! The boards of `boards.txt`: what is seen, may be decided and is carried out on each; and what else a position answers.
 
 use crate::fibs_fields::boards::Board;
-use crate::fibs_position::{Decision, Disallowed, Phase, Play, Position, Stake, differs, effect};
-use crate::tests::boards::{
-    FOUR_ONES, ONE_STEP, PASSING, TO_ANSWER, TO_BEAR_OFF, TO_HIT, TO_MOVE_UP, TO_ROLL, TWO_ORDERS,
-};
-use crate::tests::choices::{Choice, play};
+use crate::fibs_position::{Decision, Direction, Position, WatchedBoard, differs, effect};
+use crate::tests::boards::{AS_SENT, PASSING, TABLE, TO_ANSWER, TO_MOVE, TO_ROLL};
+use crate::tests::table::{After, Checkers, Row, rows};
 
-/// The steps of a play.
-pub type Steps = &'static [(u8, u8)];
-
-/// A board, and what a position of it answers.
-pub struct Row {
-    pub name: &'static str,
-    pub board: &'static [u8],
-    pub phase: Phase,
-    pub most: u8,
-    pub plays: &'static [Steps],
-    /// Decisions, and why they are not allowed.
-    pub answers: &'static [(Choice, Option<Disallowed>)],
+/// How many checkers are on a place.
+fn count(checkers: &Checkers, wanted: u8) -> u8 {
+    checkers.iter().find(|pair| pair.0 == wanted).map_or(0, |pair| pair.1)
 }
 
-/// Rows that play few dice.
-static SHORT: [Row; 3] = [
-    Row {
-        name: "either die can be played, both can't: the larger",
-        board: ONE_STEP,
-        phase: Phase::Move,
-        most: 1,
-        plays: &[&[(24, 18)]],
-        answers: &[
-            (Choice::Move(&[(24, 18)]), None),
-            (Choice::Move(&[(24, 19)]), Some(Disallowed::IllegalPlay)),
-            (Choice::Move(&[(24, 13)]), Some(Disallowed::IllegalPlay)),
-            (Choice::Roll, Some(Disallowed::WrongKind)),
-            (Choice::Resign(Stake::Gammon), None),
-        ],
-    },
-    Row {
-        name: "one die is shown",
-        board: b"board:You:bob:5:0:0:0:0:0:0:0:0:0:0:0:0:0:0:0:-2:0:0:0:0:0:0:0:0:0:0:1:0:1:6:0:0:0:1:1:1:0:1:-1:0:25:14:13:0:0:1:0:0:0",
-        phase: Phase::Move,
-        most: 1,
-        plays: &[&[(24, 18)]],
-        answers: &[(Choice::Move(&[]), Some(Disallowed::IllegalPlay))],
-    },
-    Row {
-        name: "bearing off, the highest first",
-        board: TO_BEAR_OFF,
-        phase: Phase::Move,
-        most: 2,
-        plays: &[&[(3, 0), (2, 0)]],
-        answers: &[(
-            Choice::Move(&[(2, 0), (3, 0)]),
-            Some(Disallowed::IllegalPlay),
-        )],
-    },
-];
-
-/// Rows of held places and of one arrangement.
-static HELD: [Row; 3] = [
-    Row {
-        name: "all entry places are held",
-        board: PASSING,
-        phase: Phase::Passing,
-        most: 0,
-        plays: &[],
-        answers: &[
-            (Choice::Roll, Some(Disallowed::NotYours)),
-            (Choice::Double, Some(Disallowed::NotYours)),
-            (Choice::Accept, Some(Disallowed::NotYours)),
-            (Choice::Reject, Some(Disallowed::NotYours)),
-            (Choice::Move(&[]), Some(Disallowed::NotYours)),
-            (Choice::Resign(Stake::Gammon), Some(Disallowed::NotYours)),
-        ],
-    },
-    Row {
-        name: "three of four equal dice, for a player who goes up",
-        board: TO_MOVE_UP,
-        phase: Phase::Move,
-        most: 3,
-        plays: &[&[(20, 17), (17, 14), (14, 11)]],
-        answers: &[(Choice::Move(&[(20, 17), (17, 14)]), Some(Disallowed::IllegalPlay))],
-    },
-    Row {
-        name: "both orders reach one arrangement",
-        board: TWO_ORDERS,
-        phase: Phase::Move,
-        most: 2,
-        plays: &[&[(24, 19), (19, 13)]],
-        answers: &[(Choice::Move(&[(24, 18), (18, 13)]), None)],
-    },
-];
-
-/// Rows of several plays, and of a hit.
-static LISTED: [Row; 3] = [
-    Row {
-        name: "two checkers reach four arrangements",
-        board: b"board:You:bob:5:0:0:0:0:0:0:1:0:0:0:1:0:0:0:0:0:0:0:0:0:0:0:0:0:0:0:-2:0:1:2:1:0:0:1:1:1:0:1:-1:0:25:13:13:0:0:2:0:0:0",
-        phase: Phase::Move,
-        most: 2,
-        plays: &[
-            &[(8, 7), (7, 5)],
-            &[(8, 7), (4, 2)],
-            &[(8, 6), (4, 3)],
-            &[(4, 3), (3, 1)],
-        ],
-        answers: &[(Choice::Move(&[(8, 6), (6, 5)]), None)],
-    },
-    Row {
-        name: "two checkers by four ones",
-        board: FOUR_ONES,
-        phase: Phase::Move,
-        most: 4,
-        plays: &[
-            &[(8, 7), (7, 6), (6, 5), (5, 4)],
-            &[(8, 7), (7, 6), (6, 5), (4, 3)],
-            &[(8, 7), (7, 6), (4, 3), (3, 2)],
-            &[(8, 7), (4, 3), (3, 2), (2, 1)],
-        ],
-        answers: &[],
-    },
-    Row {
-        name: "a hit by a double six",
-        board: TO_HIT,
-        phase: Phase::Move,
-        most: 1,
-        plays: &[&[(24, 18)]],
-        answers: &[],
-    },
-];
-
-/// Rows before a roll, and of the cube.
-static CUBE: [Row; 2] = [
-    Row {
-        name: "a double is to be answered, with the cube at its limit",
-        board: TO_ANSWER,
-        phase: Phase::AnswerDouble,
-        most: 0,
-        plays: &[],
-        answers: &[
-            (Choice::Accept, Some(Disallowed::WrongKind)),
-            (Choice::Roll, Some(Disallowed::WrongKind)),
-            (Choice::Reject, None),
-            (Choice::Resign(Stake::Gammon), Some(Disallowed::WrongKind)),
-        ],
-    },
-    Row {
-        name: "before the roll",
-        board: TO_ROLL,
-        phase: Phase::RollOrDouble,
-        most: 0,
-        plays: &[],
-        answers: &[
-            (Choice::Roll, None),
-            (Choice::Double, None),
-            (Choice::Reject, Some(Disallowed::WrongKind)),
-            (Choice::Move(&[]), Some(Disallowed::WrongKind)),
-            (Choice::Resign(Stake::Normal), None),
-            (Choice::Resign(Stake::Gammon), None),
-            (Choice::Resign(Stake::Backgammon), None),
-        ],
-    },
-];
-
-/// The position of a board line, if it has one.
-pub fn position(line: &[u8]) -> Option<Position> {
-    Position::of(&Board::read(line).ok()?).ok()
-}
-
-/// All of these rows.
-pub fn rows() -> [&'static [Row]; 4] {
-    [&SHORT, &HELD, &LISTED, &CUBE]
-}
-
-/// The play is that of these steps, and is allowed.
-fn is_allowed(position: &Position, found: &Play, steps: Steps) -> bool {
-    play(steps) == Some(*found) && position.allows(&Decision::Move(*found)).is_ok()
-}
-
-/// The plays are these, in this order, and each is allowed.
-fn are_listed(position: &Position, plays: &[Play], wanted: &[Steps]) -> bool {
-    if plays.len() != wanted.len() {
-        return false;
+/// What is seen on a board is what its row has.
+fn assert_seen(row: &Row, position: &Position) {
+    let name = row.name;
+    assert_eq!(position.phase().name(), row.phase, "{name}: the phase");
+    assert_eq!(position.direction() == Direction::Up, row.direction == "up", "{name}: the direction");
+    for place in 0..26 {
+        assert_eq!(position.own(place), count(&row.own, place), "{name}: the player's checkers on {place}");
     }
-    for at in 0..plays.len() {
-        if !is_allowed(position, &plays[at], wanted[at]) {
-            return false;
-        }
+    for place in 1..25 {
+        assert_eq!(position.other(place), count(&row.other, place), "{name}: the opponent's checkers on {place}");
     }
-    true
+    let off = [position.other_bar(), position.other_off()];
+    assert_eq!(off, [0, 25].map(|place| count(&row.other, place)), "{name}: the opponent's bar, and what is off");
 }
 
-/// This answer is given to a choice.
-fn is_given(position: &Position, choice: &Choice, why: Option<Disallowed>) -> bool {
-    match choice.decision() {
-        Some(decision) => position.allows(&decision).err() == why,
-        None => false,
+/// What may be played and decided on a board is what its row has.
+fn assert_allowed(row: &Row, position: &Position) {
+    let (name, plays) = (row.name, position.plays().expect("memory is ample"));
+    if let Some((most, wanted)) = &row.plays {
+        assert!(position.most_dice() == *most && plays == *wanted, "{name}: the dice and the plays");
+    }
+    assert!(row.count.is_none_or(|count| plays.len() == count), "{name}: {} plays", plays.len());
+    for (decision, why) in &row.answers {
+        assert_eq!(position.allows(decision).err().map(|why| why.name()), *why, "{name}: {decision:?}");
     }
 }
 
-/// Each of these answers is given.
-fn are_given(position: &Position, answers: &[(Choice, Option<Disallowed>)]) -> bool {
-    for (choice, why) in answers {
-        if !is_given(position, choice, *why) {
-            return false;
-        }
-    }
-    true
+/// The numbers of a board with these changes.
+fn changed(board: &Board, changes: &[(usize, i32)]) -> Board {
+    changes.iter().fold(*board, |board, change| board.with(change.0, change.1).expect("the field may be so"))
 }
 
-/// Whether the row's plays are listed.
-fn lists_plays(position: &Position, row: &Row) -> bool {
-    match position.plays() {
-        Ok(plays) => are_listed(position, plays.as_slice(), row.plays),
-        Err(_) => false,
-    }
-}
-
-/// Whether the phase, the dice, the plays and the answers are those of the row.
-fn is_answered(row: &Row) -> Option<[bool; 4]> {
-    let position = position(row.board)?;
-    Some([
-        position.phase() == row.phase,
-        position.most_dice() == row.most,
-        lists_plays(&position, row),
-        are_given(&position, row.answers),
-    ])
-}
-
-/// Asserts that positions answer as these rows say.
-fn assert_answered(rows: &[Row]) {
-    for row in rows {
-        let is_right = is_answered(row) == Some([true; 4]);
-        assert!(is_right, "phase, dice, plays and answers: {}", row.name);
+/// A board is changed by decisions as its row has it.
+fn assert_carried_out(row: &Row, board: &Board, rows: &[Row]) {
+    for (decision, dice, after) in &row.effects {
+        let wanted = match after {
+            After::Nothing => None,
+            After::Changed(changes) => Some(changed(board, changes)),
+            After::Named(name) => {
+                let found = rows.iter().find(|row| row.name.split(": ").next() == Some(name));
+                Some(Board::read(found.expect(name).board.as_bytes()).expect(name))
+            }
+        };
+        assert!(effect(board, decision, *dice) == wanted, "{}: after {decision:?}", row.name);
     }
 }
 
 #[test]
-fn positions_answer_as_worked_out() {
-    for table in rows() {
-        assert_answered(table);
+fn boards_are_as_worked_out() {
+    let rows = rows(TABLE).unwrap();
+    assert!(rows.len() > 80, "{}", rows.len());
+    for row in &rows {
+        let board = Board::read(row.board.as_bytes()).expect(row.name);
+        match Position::of(&board) {
+            Ok(position) => {
+                assert_seen(row, &position);
+                assert_allowed(row, &position);
+            }
+            Err(fault) => {
+                assert_eq!(row.fault, Some(fault.name()), "{}", row.name);
+                assert!(effect(&board, &Decision::Roll, [1, 1]).is_none(), "{}", row.name);
+            }
+        }
+        assert_carried_out(row, &board, &rows);
     }
 }
 
-/// Boards without a position.
-static BAD: [(&str, &[u8]); 4] = [
-    (
-        "watched, and too many",
-        b"board:ann:bob:3:0:1:0:-2:0:0:0:0:5:0:3:0:0:0:-5:5:0:0:0:-3:0:-5:0:0:0:0:2:0:1:0:0:0:0:1:1:1:0:1:-1:0:25:1:1:0:0:0:0:0:0",
-    ),
-    (
-        "too many of both",
-        b"board:You:bob:3:0:1:0:-2:0:0:0:0:5:0:3:0:0:0:-5:5:0:0:0:-3:0:-5:0:0:0:0:2:0:1:0:0:0:0:1:1:1:0:1:-1:0:25:1:1:0:0:0:0:0:0",
-    ),
-    (
-        "too many of the player",
-        b"board:You:bob:3:0:1:0:-2:0:0:0:0:5:0:3:0:0:0:-5:5:0:0:0:-3:0:-5:0:0:0:0:3:0:1:0:0:0:0:1:1:1:0:1:-1:0:25:0:0:0:0:0:0:0:0",
-    ),
-    (
-        "too many of the opponent",
-        b"board:You:bob:3:0:1:0:-2:0:0:0:0:5:0:3:0:0:0:-5:5:0:0:0:-3:0:-5:0:0:0:0:2:0:1:0:0:0:0:1:1:1:0:1:-1:0:25:0:1:0:0:0:0:0:0",
-    ),
+/// Tables that are wrong, and the line that is named.
+static WRONG: [(&str, &str); 6] = [
+    ("board:You", "boards.txt:1: "),
+    ("= a board\nboard:You\n\nroll 6 2 -> 34:6", "boards.txt:4: "),
+    ("= a board\nboard:You\nOver up: 6:15 against\nOver up: 6:15 against", "boards.txt:4: "),
+    ("= a board\nboard:You\nno position: NotYou\nallowed: roll, sing", "boards.txt:4: "),
+    ("= a board\nboard:You\nno position: NotYou\n= the same\nboard:You", "boards.txt:5: "),
+    ("= a board\nboard:You\nallowed: roll", "boards.txt: nothing is seen on the board `a board`"),
 ];
 
-/// Asserts that nothing is carried out on the board of a line.
-fn assert_still(name: &str, line: &[u8]) {
-    let board = Board::read(line).expect("it is a board");
-    let after = effect(&board, &Decision::Roll, [1, 1]);
-    assert!(after.is_none(), "{name}");
+#[test]
+fn the_line_of_a_table_that_is_wrong_is_named() {
+    for (text, why) in &WRONG {
+        assert!(rows(text).is_err_and(|found| found.starts_with(why)), "{text}");
+    }
+}
+
+/// Whether the board of a line is one that is watched.
+fn is_watched(line: &[u8]) -> Option<bool> {
+    Some(WatchedBoard::of(&Board::read(line).ok()?).is_some())
 }
 
 #[test]
-fn nothing_is_carried_out_without_a_position() {
-    for (name, line) in &BAD {
-        assert_still(name, line);
+fn the_users_own_game_is_not_watched() {
+    for line in [AS_SENT, TO_ROLL, TO_MOVE, TO_ANSWER, PASSING] {
+        let others = [b"board:carl", &line[b"board:You".len()..]].concat();
+        assert_eq!((is_watched(line), is_watched(&others)), (Some(false), Some(true)), "{line:?}");
     }
 }
 
@@ -283,8 +111,6 @@ fn nothing_is_carried_out_without_a_position() {
 #[test]
 fn boards_do_not_differ_in_the_player() {
     let first = Board::read(TO_ROLL).expect("it is a board");
-    let player = Board::read(
-        b"board:Yet:bob:3:0:1:0:-2:0:0:0:0:5:0:3:0:0:0:-5:5:0:0:0:-3:0:-5:0:0:0:0:2:0:1:0:0:0:0:1:1:1:0:1:-1:0:25:0:0:0:0:0:0:0:0",
-    ).expect("it is a board");
-    assert!(!differs(&first, &player));
+    let player = [b"board:Yet", &TO_ROLL[b"board:You".len()..]].concat();
+    assert!(!differs(&first, &Board::read(&player).expect("it is a board")));
 }

@@ -1,15 +1,15 @@
 //! Turns, plays and arrangements as values.
 
 use crate::fibs_rules::{Arrangement, Play, Step, Turn};
-use crate::tests::choices::play;
+use crate::tests::table::turns;
 
 /// Counts by place; the checkers that are left are at `rest`.
-fn counts(placed: &[(usize, u8)], rest: usize) -> [u8; 26] {
+fn counts(placed: &[(u8, u8)], rest: usize) -> [u8; 26] {
     let mut counts = [0u8; 26];
     let mut on = 0u8;
     for (place, count) in placed {
         if *place < 26 {
-            counts[*place] = *count;
+            counts[usize::from(*place)] = *count;
         }
         on = on.saturating_add(*count);
     }
@@ -20,63 +20,39 @@ fn counts(placed: &[(usize, u8)], rest: usize) -> [u8; 26] {
 }
 
 /// The arrangement of these counts, if each side has fifteen checkers.
-fn arrangement(own: &[(usize, u8)], other: &[(usize, u8)]) -> Option<Arrangement> {
+fn arrangement(own: &[(u8, u8)], other: &[(u8, u8)]) -> Option<Arrangement> {
     Arrangement::new(counts(own, 0), counts(other, 25))
 }
 
-/// A turn in which no checker can move, and plays that are not legal in it.
-struct Still {
-    name: &'static str,
-    own: &'static [(usize, u8)],
-    other: &'static [(usize, u8)],
-    dice: [u8; 2],
-    refused: &'static [&'static [(u8, u8)]],
+/// Without a die that can be played there is a play still, the one without a step, which no list of a board has.
+#[test]
+fn turns_are_as_worked_out() {
+    let none = Play::new();
+    for row in turns(include_str!("turns.txt")).unwrap() {
+        let [one, other] = row.dice;
+        let start = arrangement(&row.own, &row.other).expect(row.name);
+        let turn = Turn::new(start, one, other);
+        assert!(turn.plays().expect("memory is ample") == row.plays, "{}: the list", row.name);
+        assert!(row.plays.iter().all(|play| turn.is_legal(play)), "{}: each is legal", row.name);
+        assert!(!row.refused.iter().any(|play| turn.is_legal(play)), "{}: refused", row.name);
+        let most = row.plays.iter().map(|play| play.steps().len()).max();
+        assert_eq!(most, Some(usize::from(turn.most_dice())), "{}: the dice", row.name);
+        assert_eq!(turn.can_move(), row.plays != [none], "{}: a checker moves", row.name);
+    }
 }
 
-static STILL: [Still; 2] = [
-    Still { name: "no die is shown", own: &[(24, 2)], other: &[], dice: [0, 0], refused: &[&[(24, 23)]] },
-    Still {
-        name: "no entry",
-        own: &[(25, 1), (6, 14)],
-        other: &[(19, 2), (20, 2), (21, 2), (22, 2), (23, 2), (24, 2)],
-        dice: [3, 1],
-        refused: &[&[(6, 5), (6, 3)], &[(25, 24)]],
-    },
+/// Tables that are wrong, and the line that is named.
+static WRONG: [(&str, &str); 4] = [
+    ("a turn | 24:1 | 13:2 | 6 5 | 24-18", "turns.txt:1: "),
+    ("\na turn | 24:1 | 13:2 | 6 5 | 24-18 | none | none", "turns.txt:2: "),
+    ("# a\na turn | 24 | 13:2 | 6 5 | 24-18 | none", "turns.txt:2: "),
+    ("a turn | 24:1 | 13:2 | 6 5 | 24 | none", "turns.txt:1: "),
 ];
 
-/// The one play of a turn is that of no step.
-fn stands_still(turn: &Turn) -> bool {
-    let none = Play::new();
-    let is_none = match turn.plays() {
-        Ok(plays) => plays.as_slice() == [none].as_slice(),
-        Err(_) => false,
-    };
-    is_none && turn.is_legal(&none) && turn.most_dice() == 0 && !turn.can_move()
-}
-
-/// None of the plays is legal.
-fn are_refused(turn: &Turn, plays: &[&[(u8, u8)]]) -> Option<bool> {
-    for steps in plays {
-        if turn.is_legal(&play(steps)?) {
-            return Some(false);
-        }
-    }
-    Some(true)
-}
-
-/// Whether no checker can move in a turn, and these plays are refused.
-fn is_still(turn: &Turn, refused: &[&[(u8, u8)]]) -> bool {
-    stands_still(turn) && are_refused(turn, refused) == Some(true)
-}
-
-/// Without a die that can be played there is a play still, which no list of a board has.
 #[test]
-fn where_no_checker_can_move_the_play_has_no_step() {
-    for row in &STILL {
-        let [one, other] = row.dice;
-        let start = arrangement(row.own, row.other).expect("it is an arrangement");
-        let turn = Turn::new(start, one, other);
-        assert!(is_still(&turn, row.refused), "{}", row.name);
+fn the_line_of_a_table_that_is_wrong_is_named() {
+    for (text, why) in &WRONG {
+        assert!(turns(text).is_err_and(|found| found.starts_with(why)), "{text}");
     }
 }
 

@@ -5,6 +5,8 @@
 
 #[cfg(unix)]
 mod attention;
+#[path = "../../../src/tests/boards.rs"]
+#[allow(dead_code)]
 mod boards;
 mod connect;
 mod flushing;
