@@ -71,11 +71,13 @@ pub fn board_lines_are_not_numbered()
 {}
 
 /// A line has one reading.
+#[tactic(auto, using(crate::proofs::LineLemmas::Readings::reading_same))]
 pub fn each_line_has_one_reading()
     ensures { (line : List ℕ) → (v w : ReadingValue) → IsReading line v → IsReading line w → v ≡ w }
 {}
 
 /// The function `reading_value` gives each line its reading.
+#[tactic(auto, using(crate::proofs::LineLemmas::ReadingValues::reading_is_exact))]
 pub fn reading_is_exact()
     ensures { ReadingIsExact }
 {}
@@ -106,6 +108,7 @@ pub fn canonical_lines_read_back(line: &[u8]) -> Reading<'_>
 }
 
 /// The number and the fields of each message are those of one row of the table.
+#[tactic(auto, using(crate::proofs::MessageLemmas::Rows::number_is, crate::proofs::MessageLemmas::Rows::kinds_are))]
 pub fn messages_are_rows_of_the_table()
     ensures { (m : Message) →
         IsNumber (message_of m).number × (map kind_of (message_of m).fields ≡ kinds_of (message_of m).number) }
@@ -148,6 +151,7 @@ fn has_bits(message: &Message<'_>)
 }
 
 /// Each message has the number and the kinds of fields of one row of the table, and values of these kinds.
+#[tactic(auto, using(crate::proofs::MessageLemmas::Rows::is_message))]
 pub fn messages_are_well_formed(message: &Message<'_>)
     ensures { IsMessage (message_of message.now) }
 {

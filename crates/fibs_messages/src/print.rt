@@ -164,6 +164,7 @@ fn append_whole(out: &mut Vec<u8>, message: &Message<'_>) -> Result<(), AllocErr
 /// has two digits after its point; an empty text is written as nothing, without its space.
 ///
 /// If memory runs out, `out` stays as it was.
+#[tactic(auto, using(crate::proofs::MessageLemmas::CanonicalLines::canonical_said))]
 pub fn print_message(
     _alloc: Global,
     message: &Message<'_>,
