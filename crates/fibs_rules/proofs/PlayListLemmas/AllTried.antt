@@ -11,12 +11,12 @@ use Rattle.fibs_rules.specs.Runs.{Run, RunOf, Standing, held, held_of, most_of, 
 use Rattle.fibs_rules.specs.LegalPlays.{Leads, are_two, larger_first, play_cmp}
 use Rattle.fibs_rules.specs.Search.{AreDice, Reach, reaches, all_in_order, all_of}
 use Rattle.fibs_rules.proofs.SearchLemmas.LongestRuns.{longest-reached, run_long}
-use Rattle.fibs_rules.proofs.RuleLemmas.DiceParts.{IsFront, front_from_part, part_from_held, part_from_swapped, dice_held, held_long, alike}
+use Rattle.fibs_rules.proofs.RuleLemmas.DiceParts.{IsFront, front_from_part, part_from_held, part_from_swapped, dice_held, held_long, alike, two_held}
 use Rattle.fibs_rules.proofs.SearchLemmas.FollowSteps.{dice_front}
 use Rattle.fibs_rules.proofs.SearchLemmas.LegalTest.{follows_complete, legal_sound, legal_complete, two_is, larger_from, part_of_larger, playable, in_order, two_from}
 use Rattle.fibs_rules.proofs.PlayListLemmas.PlayOrder.{itself}
 use Rattle.fibs_rules.proofs.PlayListLemmas.Reaches.{In, in_left, in_right, in_cases, Falls, reaches_sound, reaches_complete}
-use Rattle.fibs_rules.proofs.PlayListLemmas.FallingPlays.{AllAre, front_all, held_alike, falls_alike, two_fall, two_held}
+use Rattle.fibs_rules.proofs.PlayListLemmas.FallingPlays.{AllAre, front_all, held_alike, falls_alike, two_fall}
 use Rattle.fibs_rules.proofs.RuleLemmas.HighestFirst.{fallen, front_dice}
 
 -- the arrangement after these steps

@@ -1,8 +1,7 @@
 -- Each legal play has one that is no less, leads to the same arrangement, and whose steps fall.
-use Rattle.std.proofs.Common.{◌≡◌, ◌≢◌, ℕ, ◌<◌, ◌⊎◌, inl, inr, List, [], ◌∷◌, ◌++◌, false, refl, sym, subst, ◌∙◌, arith}
+use Rattle.std.proofs.Common.{◌≡◌, ℕ, ◌<◌, ◌⊎◌, inl, inr, List, [], ◌∷◌, ◌++◌, false, refl, sym, subst, ◌∙◌, arith}
 use Rattle.std.specs.Ordering.{is_gt}
 use Rattle.std.proofs.lemmas.Bool.{cases_lt, both_ways}
-use Rattle.std.proofs.lemmas.Bool.Decides.{nat_tests}
 use Rattle.fibs_rules.specs.Hop.{Hop}
 use Rattle.fibs_rules.specs.Checkers.{Checkers}
 use Rattle.fibs_rules.specs.Runs.{Run, held_of}
@@ -31,10 +30,6 @@ held_alike a b one = elim (held a b) [
   | different apart l r e f ↦ absurd (both_ways _ one (two_is a b l r apart))
   | equal pos e f ↦ (a, subst (AllAre a) (sym e) (refl, (refl, (refl, (refl, tt)))))
 ]
-
--- two different ones are held each once
-pub two_held : (a b : ℕ) → 0 < a → 0 < b → a ≢ b → held_of a b ≡ a ∷ b ∷ []
-two_held a b l r apart = grind (arith, nat_tests)
 
 -- by equal dice, a run that is tried falls
 pub falls_alike : (p q : Checkers) (die : ℕ) (dice : List ℕ) (top : ℕ) (steps : List Hop) → AllAre die dice
