@@ -18,16 +18,19 @@ pub fn commands_tell_decisions()
 {}
 
 /// A decision's command has at most 36 bytes.
+#[tactic(auto, using(crate::proofs::CommandLemmas::commands_are_short))]
 pub fn commands_are_short()
     ensures { CommandsAreShort }
 {}
 
 /// A decision's command is not empty, and holds no line end, no telnet command and no other control byte.
+#[tactic(auto, using(crate::proofs::CommandLemmas::commands_are_printed))]
 pub fn commands_are_printed()
     ensures { CommandsArePrinted }
 {}
 
 /// A decision that moves no checker has one command in both directions.
+#[tactic(auto, using(crate::proofs::CommandLemmas::plain_in_both_directions))]
 pub fn plain_in_both_directions()
     ensures { PlainInBothDirections }
 {}
@@ -41,6 +44,7 @@ pub fn read_command_is_exact()
 }
 
 /// Which plain command a text is, said by the function, is what the relation says.
+#[tactic(auto, using(crate::proofs::ReadingPlain::read_plain_is_exact))]
 pub fn read_plain_is_exact()
     ensures { ReadPlainIsExact }
 {
@@ -48,6 +52,7 @@ pub fn read_plain_is_exact()
 }
 
 /// A plain command without a fault is read from its text.
+#[tactic(auto, using(crate::proofs::ReadingPlain::plain_reads_back))]
 pub fn plain_reads_back()
     ensures { PlainReadsBack }
 {

@@ -42,6 +42,7 @@ fn is_secret(text: &[u8]) -> bool
 }
 
 /// The password as a text, or what is wrong with it.
+#[tactic(auto, using(crate::proofs::PrintedLemmas::secret_is_printed))]
 fn checked_password(password: &[u8]) -> Result<&str, PlainFault>
     ensures text { IfOk result (λ text. text.now ≡ password.now) }
     ensures valid { IfOk result (λ text. is_password text.now ≡ true) }

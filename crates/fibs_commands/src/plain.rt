@@ -87,6 +87,7 @@ impl fmt::Display for PlainFault {
 }
 
 /// The name as a text, or what is wrong with it.
+#[tactic(auto, using(crate::proofs::PrintedLemmas::name_is_printed))]
 pub fn checked_name(name: &[u8]) -> Result<&str, PlainFault>
     ensures text { IfOk result (λ text. text.now ≡ name.now) }
     ensures valid { IfOk result (λ text. is_name text.now ≡ true) }
