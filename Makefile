@@ -26,7 +26,7 @@ TARGET =
 # the heap of the toolchain's library, over malloc, realloc and free
 KIT_ARCHIVE = $(dir $(shell rt doc))c/liblibc_c.a
 
-.PHONY: all lib test edits quick definitions fmt dist install install-program install-surface install-lib \
+.PHONY: all lib test edits try quick definitions fmt dist install install-program install-surface install-lib \
 	install-program-files install-lib-files dist-files bench bench-more clean help $(CRATES)
 
 all: ## proves and builds the program: bin/fibs, with bin/fibs-play beside it
@@ -47,6 +47,10 @@ test: ## passes all tests: the proofs, the edits that must fail, the tests of wh
 
 edits: ## tries the edits that the prover must refuse, over what make and make lib built
 	@tests/edits
+
+try: ## the tests in Rust, by cargo: a first look at a change. TEST=WORD: those with WORD in their names
+	@scripts/tools try
+	@tests/try $(TEST)
 
 quick: ## what needs no proof, on what make and make lib built, in three minutes at most
 	@tests/quick
