@@ -52,7 +52,7 @@ try: ## the tests in Rust, by cargo: a first look at a change. TEST=WORD: those 
 	@scripts/tools try
 	@tests/try $(TEST)
 
-quick: ## what needs no proof, on what make and make lib built, in three minutes at most
+quick: ## all tests that need no proof, on what make and make lib built, the quickest first
 	@tests/quick
 
 $(CRATES): ## (the name of a crate) proves it, and what it uses
