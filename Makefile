@@ -55,8 +55,8 @@ try: ## the tests in Rust, by cargo: a first look at a change. TEST=WORD: those 
 quick: ## all tests that need no proof, on what make and make lib built, the quickest first
 	@tests/quick
 
-$(CRATES): ## (the name of a crate) proves it, and what it uses
-	@scripts/prove $@
+$(CRATES): ## (the name of a crate) proves it and what it uses, and keeps the proofs: `rt check` begins with them
+	@KEEP=$${KEEP:-1} scripts/prove $@
 
 definitions: ## lists the definitions that contracts cite, by their comments, in out/definitions
 	@scripts/definitions
