@@ -6,6 +6,7 @@ ghost use Rattle.fibs_picture.specs.WatchedTold.{WatchedPictureTells, WatchedPic
 use fibs_fields::boards::laws::fields_have_their_ranges;
 
 /// Boards with the same picture, each with a position, look the same (`SameToTheEye`).
+#[tactic(auto, using(crate::proofs::PictureLemmas::Told::picture_tells))]
 pub fn picture_tells()
     ensures { PictureTells }
 {
@@ -13,6 +14,7 @@ pub fn picture_tells()
 }
 
 /// The picture of a board that has a position is fourteen lines of plain ASCII, of at most 79 columns.
+#[tactic(auto, using(crate::proofs::PictureLemmas::Fits::picture_fits))]
 pub fn picture_fits()
     ensures { PictureFits }
 {
@@ -20,6 +22,7 @@ pub fn picture_fits()
 }
 
 /// Watched boards with the same picture look the same (`SameToTheWatcher`).
+#[tactic(auto, using(crate::proofs::PictureLemmas::Watched::watched_picture_tells))]
 pub fn watched_picture_tells()
     ensures { WatchedPictureTells }
 {
@@ -27,6 +30,7 @@ pub fn watched_picture_tells()
 }
 
 /// The picture of a watched board is thirteen lines of plain ASCII, of at most 79 columns.
+#[tactic(auto, using(crate::proofs::PictureLemmas::WatchedFits::watched_picture_fits))]
 pub fn watched_picture_fits()
     ensures { WatchedPictureFits }
 {

@@ -2,6 +2,7 @@
 use Rattle.std.proofs.Common.{◌≡◌, ◌⊎◌, ◌<◌, ◌≤◌, ◌+◌, ◌-◌, ◌*◌, ◌==◌, ◌&&◌, ◌++◌, ℕ, zero, suc, Bool, true, false, cond, List, refl, sym, ◌∙◌, ap, arith, inl, inr, nat_lt, slice_index_or}
 use Rattle.std.proofs.Math.Nat.{eq-or-lt_of_le}
 use Rattle.fibs_picture.specs.Cells.{stack, own_letter, other_letter}
+use Rattle.fibs_picture.proofs.PictureLemmas.Parts.{and-left, and-right}
 
 -- the cells of a place, from the edge
 abbrev pub column : ℕ → ℕ → List ℕ
@@ -35,16 +36,6 @@ all_below p (suc n) = p n && all_below p n
 -- all numbers of checkers below 16 are read back
 all-read : all_below is_read 16 ≡ true
 all-read = refl
-
--- of two tests that hold together the first holds
-and-left : (a b : Bool) → (a && b) ≡ true → a ≡ true
-and-left true b e = refl
-and-left false b e = e
-
--- of two tests that hold together the second holds
-and-right : (a b : Bool) → (a && b) ≡ true → b ≡ true
-and-right true b e = e
-and-right false b e = cc
 
 -- what holds of all numbers below another holds of each
 below : (p : ℕ → Bool) (n k : ℕ) → k < n → all_below p n ≡ true → p k ≡ true

@@ -404,8 +404,8 @@ picture-ended b =
     (sym (flat_map-append ended (joined (upper_lines b (position_of b))) (joined (lower_lines b (position_of b)))))
 
 -- the picture of a good board fits a terminal
-pub picture-fits : FieldRanges → PictureFits
-picture-fits f b good = (
+pub picture_fits : FieldRanges → PictureFits
+picture_fits f b good = (
   joined (upper_lines b (position_of b)) ++ joined (lower_lines b (position_of b)),
   count b,
   all-append (joined (upper_lines b (position_of b))) (joined (lower_lines b (position_of b))) (upper-fit f b good)

@@ -181,7 +181,7 @@ deed_in-tells p q e =
 -- ---- dice
 
 -- a digit is no line end
-digit-plain : (n : ℕ) → not ((48 + n) == 10) ≡ true
+pub digit-plain : (n : ℕ) → not ((48 + n) == 10) ≡ true
 digit-plain n = grind (arith, nat_tests)
 
 -- two dice, or none, have no line end
@@ -196,7 +196,7 @@ dice-lacks y z = lacks-append 10 (codes "  dice  ") (two_dice (natural y) (natur
     (two_dice-lacks ((natural y == 0) && (natural z == 0)) (natural y) (natural z))
 
 -- a number that is found to be 0 is 0
-is-zero : (n : ℕ) → (n == 0) ≡ true → n ≡ 0
+pub is-zero : (n : ℕ) → (n == 0) ≡ true → n ≡ 0
 is-zero n h = grind (arith, nat_tests)
 
 -- equal words are of the same two dice
@@ -215,7 +215,7 @@ two_dice-tell m n m' n' false false h k e =
     (omega arith, omega arith)
 
 -- dice with the same number are the same
-natural-tells : (y z : ℤ) → Within 6 y → Within 6 z → natural y ≡ natural z → y ≡ z
+pub natural-tells : (y z : ℤ) → Within 6 y → Within 6 z → natural y ≡ natural z → y ≡ z
 natural-tells (pos m) (pos n) h k e = ap pos e
 natural-tells (negsuc m) z h k e = absurd (omega (arith, ints, h.0))
 natural-tells (pos m) (negsuc n) h k e = absurd (omega (arith, ints, k.0))

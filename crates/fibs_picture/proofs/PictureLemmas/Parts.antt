@@ -28,12 +28,12 @@ pub lacks-append : (c : ℕ) (xs ys : List ℕ) → lacks c xs ≡ true → lack
 lacks-append c xs ys h k = rw (list_all-append (λ x. not (x == c)) xs ys, h, k) refl
 
 -- of two tests that hold together the first holds
-and-left : (a b : Bool) → (a && b) ≡ true → a ≡ true
+pub and-left : (a b : Bool) → (a && b) ≡ true → a ≡ true
 and-left true b e = refl
 and-left false b e = e
 
 -- of two tests that hold together the second holds
-and-right : (a b : Bool) → (a && b) ≡ true → b ≡ true
+pub and-right : (a b : Bool) → (a && b) ≡ true → b ≡ true
 and-right true b e = e
 and-right false b e = cc
 

@@ -536,7 +536,7 @@ told f a b ga gb u l =
     }
 
 -- boards with one picture are the same to the eye
-pub picture-tells : FieldRanges → PictureTells
-picture-tells f a b ga gb e =
+pub picture_tells : FieldRanges → PictureTells
+picture_tells f a b ga gb e =
     let lines = same-lines a b (ended f a ga) (ended f b gb) e in
     told f a b ga gb (same-upper a b lines.upper) (same-lower a b lines.lower)

@@ -351,6 +351,6 @@ told f a b wa wb m =
     }
 
 -- watched boards of the same picture look the same
-pub watched-picture-tells : FieldRanges → WatchedPictureTells
-watched-picture-tells f a b wa wb e =
+pub watched_picture_tells : FieldRanges → WatchedPictureTells
+watched_picture_tells f a b wa wb e =
     told f a b wa wb (same-parts a b (same-lines a b (ended f a wa) (ended f b wb) e))

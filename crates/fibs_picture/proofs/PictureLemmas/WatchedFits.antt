@@ -160,8 +160,8 @@ unfolding watched_lines
 count b = refl
 
 -- the picture of a watched board is thirteen lines that fit
-pub watched-picture-fits : FieldRanges → WatchedPictureFits
-watched-picture-fits f b w = (
+pub watched_picture_fits : FieldRanges → WatchedPictureFits
+watched_picture_fits f b w = (
   joined (watched_lines b (position_of b)),
   count b,
   lines-fit f b w,

@@ -12,10 +12,10 @@ use Rattle.fibs_position.specs.declared.phase.Phase.{Phase}
 use Rattle.fibs_position.specs.declared.phase.Phase.TheVariants as phase
 use Rattle.fibs_picture.specs.Picture.{is_one}
 use Rattle.fibs_picture.proofs.PictureLemmas.Parts.{lacks, lacks-append, ends-tell}
-use Rattle.fibs_picture.proofs.PictureLemmas.Notes.{Within, number-tells, number-lacks}
+use Rattle.fibs_picture.proofs.PictureLemmas.Notes.{Within, number-tells, number-lacks, digit-plain, is-zero}
 use Rattle.fibs_picture.specs.InWords.Words.{pair}
 use Rattle.fibs_picture.specs.InWords.Watched.{against_row, offered_said, turn_named, dice_said, dice_named, owner_said, cube_named, way_said}
-use Rattle.fibs_picture.proofs.WordsLemmas.Rows.{digit-plain, is-zero}
+use Rattle.fibs_picture.proofs.WordsLemmas.Rows.{less}
 
 -- ---- who plays
 
@@ -176,9 +176,6 @@ comma_text-lacks false m n = rw (digit-other m, digit-other n) refl
 pub comma-lacks : (m n : ℕ) → lacks 44 (dice_said m n) ≡ true
 unfolding dice_said
 comma-lacks m n = comma_text-lacks ((m == 0) && (n == 0)) m n
-
-less : (n : ℕ) → (48 + n) - 48 ≡ n
-less n = omega arith
 
 -- the dice are read at their places, if the second letter is not o
 abbrev die_read : ℕ → List ℕ → ℕ

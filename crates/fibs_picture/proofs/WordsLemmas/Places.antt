@@ -14,6 +14,7 @@ use Rattle.fibs_picture.proofs.PictureLemmas.Parts.{lacks, lacks-append, decimal
 use Rattle.fibs_picture.specs.InWords.Words.{place_of, place_name, stack, stacks, off_said, side_row}
 use Rattle.fibs_picture.specs.declared.in_words.side.Side.{Side}
 use Rattle.fibs_picture.specs.declared.in_words.side.Side.TheVariants as side
+use Rattle.fibs_picture.proofs.PictureLemmas.Notes.{is-zero}
 
 -- ---- numbers
 
@@ -72,10 +73,6 @@ name_text-lacks false number h = decimal-lacks 44 number (lit< tt) h
 place_name-lacks : (d : Direction) (s : Side) (steps : ℕ) → steps ≤ 25 → lacks 44 (place_name d s steps) ≡ true
 place_name-lacks d s steps h = name_text-lacks (steps == 0) (line_place d (place_of s steps))
     (line-small d (place_of s steps) (place-small s steps h))
-
--- a number that is found to be 0 is 0
-is-zero : (n : ℕ) → (n == 0) ≡ true → n ≡ 0
-is-zero n h = grind (arith, nat_tests)
 
 -- names that are the same are both the bar, or have the same number
 names-tell : (a b : Bool) (m n : ℕ) → m < 2 ^ 64 → n < 2 ^ 64 → name_text a m ≡ name_text b n

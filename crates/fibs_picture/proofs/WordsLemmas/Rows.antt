@@ -1,10 +1,9 @@
 -- Equal rows on the game say the same.
-use Rattle.std.proofs.Common.{◌≡◌, ◌<◌, ◌+◌, ◌-◌, ◌==◌, ◌&&◌, ◌++◌, ℕ, zero, Bool, true, false, not, cond, List, [], ◌∷◌, length, codes, refl, sym, ◌∙◌, ap, arith, lit<, append_assoc}
+use Rattle.std.proofs.Common.{◌≡◌, ◌<◌, ◌+◌, ◌-◌, ◌==◌, ◌&&◌, ◌++◌, ℕ, zero, Bool, true, false, cond, List, [], ◌∷◌, length, codes, refl, sym, ◌∙◌, ap, arith, lit<, append_assoc}
 use Rattle.std.specs.Prelude.{ℤ, slice_index_or}
 use Rattle.std.specs.Fmt.{signed_decimal}
 use Rattle.std.specs.List.{flat_map}
 use Rattle.std.proofs.lemmas.Bool.{and_parts}
-use Rattle.std.proofs.lemmas.Bool.Decides.{nat_tests}
 use Rattle.std.proofs.lemmas.List.{append_cancel_left, append_cancel_right}
 use Rattle.fibs_fields.specs.Board.{BoardFields, field_of}
 use Rattle.fibs_position.specs.declared.direction.Direction.{Direction}
@@ -15,7 +14,7 @@ use Rattle.fibs_picture.specs.Fits.{ended}
 use Rattle.fibs_picture.specs.Picture.{cube, is_one, match_length}
 use Rattle.fibs_picture.specs.Told.{Whose, nobodys, the_players, the_opponents}
 use Rattle.fibs_picture.proofs.PictureLemmas.Parts.{lacks, lacks-append, ends-tell}
-use Rattle.fibs_picture.proofs.PictureLemmas.Notes.{Within, number-tells, number-lacks, match-lacks, match-tells, cube-lacks, cube-tells}
+use Rattle.fibs_picture.proofs.PictureLemmas.Notes.{Within, number-tells, number-lacks, match-lacks, match-tells, cube-lacks, cube-tells, digit-plain, is-zero}
 use Rattle.fibs_picture.specs.InWords.Words.{whose, turn_said, phase_said, turn_row, pair, dice_row, score_row, cube_shows, cube_row, direction_row}
 
 -- ---- rows are known from each other
@@ -104,10 +103,6 @@ turn_row-tells w v p q e =
 
 -- ---- the dice
 
--- a digit is no line end
-pub digit-plain : (n : ℕ) → not ((48 + n) == 10) ≡ true
-digit-plain n = grind (arith, nat_tests)
-
 -- what is told of the dice, by whether they are shown
 abbrev dice_text : Bool → Bool → ℕ → ℕ → ℕ → ℕ → List ℕ
 dice_text none other_none m n k l = cond none
@@ -137,12 +132,8 @@ abbrev other_read : ℕ → ℕ → List ℕ → ℕ
 other_read i j text = cond (slice_index_or text 0 0 == 84) (slice_index_or text i 0 - 48)
     (cond (slice_index_or text 0 0 == 89) (slice_index_or text j 48 - 48) 0)
 
--- a number that is found to be 0 is 0
-pub is-zero : (n : ℕ) → (n == 0) ≡ true → n ≡ 0
-is-zero n h = grind (arith, nat_tests)
-
 -- a digit's byte less that of 0 is the digit
-less : (n : ℕ) → (48 + n) - 48 ≡ n
+pub less : (n : ℕ) → (48 + n) - 48 ≡ n
 less n = omega arith
 
 record DiceRead (text : List ℕ) (m n k l : ℕ) : Type 0 where

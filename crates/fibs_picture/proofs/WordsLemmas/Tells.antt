@@ -1,10 +1,9 @@
 -- Words determine their board: row by row, and in the rows of the sides place by place.
 use Rattle.std.proofs.Common.{◌≡◌, ◌≤◌, ◌+◌, ◌-◌, ◌++◌, ℕ, zero, suc, true, not, Bool, ◌==◌, ◌&&◌, List, [], ◌∷◌, length, codes, refl, sym, ◌∙◌, ap, subst, arith, append_assoc, take}
-use Rattle.std.specs.Prelude.{ℤ, pos, negsuc, nat_lt, nat_le, slice_index, slice_index_or}
+use Rattle.std.specs.Prelude.{nat_lt, nat_le, slice_index, slice_index_or}
 use Rattle.std.specs.List.{flat_map, list_all}
 use Rattle.std.proofs.lemmas.Bool.{and_parts}
 use Rattle.std.proofs.lemmas.Bool.Decides.{nat_tests}
-use Rattle.std.proofs.lemmas.Int.{ints}
 use Rattle.std.proofs.lemmas.List.{ext_get_or}
 use Rattle.fibs_fields.specs.Board.{BoardFields, field_of}
 use Rattle.fibs_fields.specs.FieldRanges.{FieldRanges}
@@ -20,8 +19,8 @@ use Rattle.fibs_picture.specs.Fits.{ended}
 use Rattle.fibs_picture.specs.Picture.{own_pips, other_pips}
 use Rattle.fibs_picture.specs.Told.{SameToTheEye}
 use Rattle.fibs_picture.proofs.PictureLemmas.Parts.{lacks}
-use Rattle.fibs_picture.proofs.PictureLemmas.Notes.{Within, flag-tells, all-mono}
-use Rattle.fibs_picture.proofs.PictureLemmas.Told.{Ranges, ranges-of, own-few, other-few, own-pips-few, other-pips-few}
+use Rattle.fibs_picture.proofs.PictureLemmas.Notes.{flag-tells, all-mono, natural-tells}
+use Rattle.fibs_picture.proofs.PictureLemmas.Told.{Ranges, ranges-of, own-few, other-few, own-pips-few, other-pips-few, pair-same, four-same}
 use Rattle.fibs_picture.specs.InWords.Told.{WordsTell}
 use Rattle.fibs_picture.specs.InWords.Words.{whose, turn_row, dice_row, score_row, cube_row, direction_row, count_on, side_row, held_row, game_rows, checkers_rows, told, words}
 use Rattle.fibs_picture.specs.declared.in_words.side.Side.TheVariants as side
@@ -227,21 +226,6 @@ view-same a b s = arranged-same (own_view a).own (own_view b).own (own_view a).o
 
 -- ---- what words determine
 
--- dice with the same number are the same
-pub natural-same : (y z : ℤ) → Within 6 y → Within 6 z → natural y ≡ natural z → y ≡ z
-natural-same (pos m) (pos n) h k e = ap pos e
-natural-same (negsuc m) z h k e = absurd (omega (arith, ints, h.0))
-natural-same (pos m) (negsuc n) h k e = absurd (omega (arith, ints, k.0))
-
--- lists of two are the same if their parts are
-pub pair-same : (w x y z : ℤ) → w ≡ y → x ≡ z → w ∷ x ∷ [] ≡ y ∷ z ∷ []
-pair-same w x y z e f = cc
-
--- lists of four are the same if their parts are
-pub four-same : (a b c d a' b' c' d' : ℤ) → a ≡ a' → b ≡ b' → c ≡ c' → d ≡ d'
-    → a ∷ b ∷ c ∷ d ∷ [] ≡ a' ∷ b' ∷ c' ∷ d' ∷ []
-four-same a b c d a' b' c' d' e f g h = cc
-
 -- boards with the same game and the same checkers are the same to the eye
 told-same : (a b : BoardFields) → Ranges a → Ranges b → SameGame a b → SameCheckers a b → SameToTheEye a b
 told-same a b r s g c =
@@ -259,10 +243,10 @@ told-same a b r s g c =
       turn = turns.0;
       phase = turns.1;
       dice = four-same _ _ _ _ _ _ _ _
-          (natural-same (field_of a 34) (field_of b 34) r.die_1 s.die_1 dice_same.0)
-          (natural-same (field_of a 35) (field_of b 35) r.die_2 s.die_2 dice_same.1)
-          (natural-same (field_of a 36) (field_of b 36) r.die_3 s.die_3 dice_same.2)
-          (natural-same (field_of a 37) (field_of b 37) r.die_4 s.die_4 dice_same.3);
+          (natural-tells (field_of a 34) (field_of b 34) r.die_1 s.die_1 dice_same.0)
+          (natural-tells (field_of a 35) (field_of b 35) r.die_2 s.die_2 dice_same.1)
+          (natural-tells (field_of a 36) (field_of b 36) r.die_3 s.die_3 dice_same.2)
+          (natural-tells (field_of a 37) (field_of b 37) r.die_4 s.die_4 dice_same.3);
       cube = cube_same.0;
       doublers = pair-same _ _ _ _ (flag-tells (field_of a 39) (field_of b 39) r.flag_1 s.flag_1 cube_same.1)
           (flag-tells (field_of a 40) (field_of b 40) r.flag_2 s.flag_2 cube_same.2);
@@ -272,8 +256,8 @@ told-same a b r s g c =
     }
 
 -- boards with the same words are the same to the eye
-pub words-tell : FieldRanges → WordsTell
-words-tell f a b ga gb e =
+pub words_tell : FieldRanges → WordsTell
+words_tell f a b ga gb e =
     let r = ranges-of f a ga.board in
     let s = ranges-of f b gb.board in
     let parts = same-parts a b r s e in

@@ -19,8 +19,8 @@ use Rattle.fibs_picture.specs.Picture.{own_pips, other_pips}
 use Rattle.fibs_picture.specs.Told.{Whose, nobodys, the_players, the_opponents, whose_turn}
 use Rattle.fibs_picture.specs.WatchedTold.{SameToTheWatcher}
 use Rattle.fibs_picture.proofs.PictureLemmas.Parts.{lacks}
-use Rattle.fibs_picture.proofs.PictureLemmas.Notes.{flag-tells}
-use Rattle.fibs_picture.proofs.PictureLemmas.Told.{Ranges, ranges-of, own-few, other-few, own-pips-few, other-pips-few}
+use Rattle.fibs_picture.proofs.PictureLemmas.Notes.{flag-tells, natural-tells}
+use Rattle.fibs_picture.proofs.PictureLemmas.Told.{Ranges, ranges-of, own-few, other-few, own-pips-few, other-pips-few, pair-same, four-same}
 use Rattle.fibs_picture.proofs.PictureLemmas.Watched.{front-lacks}
 use Rattle.fibs_picture.specs.InWords.Words.{score_row, count_on, side_row}
 use Rattle.fibs_picture.specs.InWords.Watched.{against_row, is_others, turn_named, dice_said, dice_named, cube_named, way_said, held_named, named_game_rows, named_checkers_rows, named_told, watched_words}
@@ -29,7 +29,7 @@ use Rattle.fibs_picture.specs.declared.in_words.side.Side.TheVariants as side
 use Rattle.fibs_picture.proofs.WordsLemmas.Places.{Few, side-tells}
 use Rattle.fibs_picture.proofs.WordsLemmas.Rows.{Plain, rows-tell, score_row-lacks, score_row-tells}
 use Rattle.fibs_picture.proofs.WordsLemmas.Named.{against_row-lacks, turn_named-lacks, turn_named-tells, offered_to, dice_said-lacks, comma-lacks, dice_said-tells, dice_named-lacks, dice_named-tells, cube_named-lacks, cube_named-tells, way_row-lacks, way_row-tells}
-use Rattle.fibs_picture.proofs.WordsLemmas.Tells.{name-lacks, three-rows, checkers, row_at, tail-same, SameCheckers, view-same, natural-same, pair-same, four-same}
+use Rattle.fibs_picture.proofs.WordsLemmas.Tells.{name-lacks, three-rows, checkers, row_at, tail-same, SameCheckers, view-same}
 
 -- ---- the phase says whose turn it is
 
@@ -233,10 +233,10 @@ told-same a b wa wb r s g c =
           phases.0 phases.1
           ∙ sym (phase-says b);
       dice = four-same _ _ _ _ _ _ _ _
-          (natural-same (field_of a 34) (field_of b 34) r.die_1 s.die_1 own_same.0)
-          (natural-same (field_of a 35) (field_of b 35) r.die_2 s.die_2 own_same.1)
-          (natural-same (field_of a 36) (field_of b 36) r.die_3 s.die_3 other_same.0)
-          (natural-same (field_of a 37) (field_of b 37) r.die_4 s.die_4 other_same.1);
+          (natural-tells (field_of a 34) (field_of b 34) r.die_1 s.die_1 own_same.0)
+          (natural-tells (field_of a 35) (field_of b 35) r.die_2 s.die_2 own_same.1)
+          (natural-tells (field_of a 36) (field_of b 36) r.die_3 s.die_3 other_same.0)
+          (natural-tells (field_of a 37) (field_of b 37) r.die_4 s.die_4 other_same.1);
       cube = cube_same.0;
       doublers = pair-same _ _ _ _ (flag-tells (field_of a 39) (field_of b 39) r.flag_1 s.flag_1 cube_same.1)
           (flag-tells (field_of a 40) (field_of b 40) r.flag_2 s.flag_2 cube_same.2);
@@ -248,8 +248,8 @@ told-same a b wa wb r s g c =
     (same, phases.0)
 
 -- watched boards of the same words are the same to the watcher, and in their phases
-pub watched-words-tell : FieldRanges → WatchedWordsTell
-watched-words-tell f a b wa wb e =
+pub watched_words_tell : FieldRanges → WatchedWordsTell
+watched_words_tell f a b wa wb e =
     let r = ranges-of f a wa.board in
     let s = ranges-of f b wb.board in
     let parts = same-parts a b wa.board wb.board r s e in

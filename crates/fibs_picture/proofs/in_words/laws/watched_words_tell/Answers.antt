@@ -1,5 +1,0 @@
-use Rattle.fibs_picture.proofs.WordsLemmas.Watched.{watched-words-tell}
-use Rattle.fibs_picture.proofs.in_words.laws.watched_words_tell.Goals as goal
-
-pub returns : goal.returns
-returns c = watched-words-tell c.fields_have_their_ranges.ensures
