@@ -69,6 +69,7 @@ impl Client {
     ghost use Rattle.fibs_session.specs.contracts.client.Client.{the_row};
 
     /// A client that never had a connection.
+    #[tactic(auto, using(crate::proofs::Calls::ClientLaws::both_at))]
     pub fn new(login: Login) -> Client
         ensures { StandsAfter result (start (login_of login)) }
     {

@@ -56,6 +56,7 @@ impl Session {
     ghost use Rattle.fibs_session.specs.Calls.SessionOf.{session_of, ask_of, texts_of, handed, refusal_in};
 
     /// A session that never had a connection.
+    #[tactic(auto, using(crate::proofs::Calls::SessionLaws::start_law))]
     pub fn new(login: Login) -> Session
         ensures { SessionStandsAfter (session_of result) (start (login_of login)) }
     {
@@ -168,6 +169,7 @@ impl Session {
     }
 
     /// Whether a standing order to roll is in force on the open connection.
+    #[tactic(auto, using(crate::proofs::Calls::SessionLaws::ordered_is))]
     pub fn ordered(&self) -> bool
         ensures { (t : Talk) → SessionStandsAfter (session_of self.now) t → result ≡ ordered_now t }
     {
@@ -186,6 +188,7 @@ impl Session {
     }
 
     /// The same board, with its position.
+    #[tactic(auto, using(crate::proofs::Calls::SessionLaws::shown_law))]
     pub fn game(&self) -> Option<&GameBoard>
         ensures { (t : Talk) → SessionStandsAfter (session_of self.now) t →
             option_map game_of (option_copied result) ≡ shown_now t }
@@ -194,6 +197,7 @@ impl Session {
     }
 
     /// The decision that waits, with the board on which it was made.
+    #[tactic(auto, using(crate::proofs::Calls::SessionLaws::waiting_law))]
     pub fn waiting(&self) -> Option<&Outstanding>
         ensures { (t : Talk) → SessionStandsAfter (session_of self.now) t →
             option_map ask_of (option_copied result) ≡ unconfirmed_now t }

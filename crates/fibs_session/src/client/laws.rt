@@ -9,11 +9,13 @@ pub use crate::histories::laws::{
 };
 
 /// What a server notes changes nothing for a client.
+#[tactic(auto, using(crate::proofs::History::GoesOn::servers_silent))]
 pub fn servers_entries_are_silent()
     ensures { ServersEntriesAreSilent }
 {}
 
 /// A call appends its input to the list of inputs by which a client is reached.
+#[tactic(auto, using(crate::proofs::History::GoesOn::inputs_go_on))]
 pub fn inputs_go_on()
     ensures { InputsGoOn }
 {}

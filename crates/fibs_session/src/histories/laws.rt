@@ -6,6 +6,7 @@ ghost use Rattle.fibs_session.specs.History.Orders.{DueOrders};
 ghost use Rattle.fibs_session.specs.History.Owing.{PiecesTakeFromWhatIsOwed, PiecesTakeFromTheEntriesOwed};
 
 /// Bytes may come in any pieces: two pieces after each other are one.
+#[tactic(auto, using(crate::proofs::History::Joins::pieces_join))]
 pub fn pieces_join()
     ensures { PiecesJoin }
 {
@@ -13,16 +14,19 @@ pub fn pieces_join()
 }
 
 /// No bytes are no input.
+#[tactic(auto, using(crate::proofs::History::Joins::empty_piece))]
 pub fn empty_piece_is_nothing()
     ensures { EmptyPieceIsNothing }
 {}
 
 /// No line opens or ends a connection.
+#[tactic(auto, using(crate::proofs::History::Joins::lines_open_none))]
 pub fn lines_open_no_connection()
     ensures { LinesOpenNoConnection }
 {}
 
 /// An order is due exactly if four facts hold.
+#[tactic(auto, using(crate::proofs::History::Due::due_orders))]
 pub fn a_due_order_says()
     ensures { DueOrders }
 {}
