@@ -4,11 +4,13 @@ ghost use Rattle.fibs_json.specs.Plays.{PlaysTellLines};
 ghost use Rattle.fibs_json.specs.Told.{BoardsGoInAgain, OtherWordsAreLines, WordsSayOneLine};
 
 /// The front of an object tells its kind and its line, whatever follows it.
+#[tactic(auto, using(crate::proofs::TellingLemmas::openings_tell))]
 pub fn openings_tell()
     ensures { OpeningsTell }
 {}
 
 /// What is printed for a line tells its bytes, and whether it was cut: no other line has that object.
+#[tactic(auto, using(crate::proofs::TellingLemmas::objects_tell))]
 pub fn objects_tell_lines()
     ensures { ObjectsTellLines }
 {}
@@ -24,6 +26,7 @@ pub fn boards_go_in_again()
 {}
 
 /// A word that does not begin as an object does is a line as it is.
+#[tactic(auto, using(crate::proofs::ToldLemmas::others_are_lines))]
 pub fn other_words_are_lines()
     ensures { OtherWordsAreLines }
 {}
