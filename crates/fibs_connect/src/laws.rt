@@ -3,6 +3,7 @@ ghost use Rattle.fibs_connect.specs.Weaving.{LinesComeInOrder};
 
 /// Whatever is heard between them, the lines that come are those that were typed, in their order: none is lost, and
 /// none comes twice.
+#[tactic(auto, using(crate::proofs::TypedLemmas::Order::lines_come_in_order))]
 pub fn lines_come_in_order()
     ensures { LinesComeInOrder }
 {}

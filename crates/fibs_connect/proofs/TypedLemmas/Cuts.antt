@@ -2,14 +2,7 @@
 use Rattle.std.proofs.Common.{◌≡◌, ℕ, zero, suc, ◌+◌, ◌-◌, ◌≤◌, Bool, true, false, eqb, cond, List, [], ◌∷◌, ◌++◌, length, length-take, take, drop, Some, None, refl, ap, sym, ◌∙◌, arith}
 use Rattle.std.proofs.lemmas.List.{drop-drop}
 use Rattle.fibs_fields.specs.Split.{before, after}
-
--- an option with a value is not the one without
-some_none : {A : Type 0} (x : A) → Some x ≡ None → ⊥
-some_none x h = cc
-
--- options that are the same have the same value
-some_same : {A : Type 0} (x y : A) → Some x ≡ Some y → x ≡ y
-some_same x y h = cc
+use Rattle.fibs_fields.proofs.FieldLemmas.Options.{some_none, option_same}
 
 -- if there is none, all is before it
 pub before-all : (c : ℕ) (s : List ℕ) → after c s ≡ None → before c s ≡ s
@@ -29,7 +22,7 @@ after-drop c (b ∷ s) rest e = go (eqb b c) (after-drop c s rest) e
     go : (t : Bool) → (after c s ≡ Some rest → drop (suc (length (before c s))) s ≡ rest)
         → cond t (Some s) (after c s) ≡ Some rest
         → drop (suc (length (cond t [] (b ∷ before c s)))) (b ∷ s) ≡ rest
-    go true ih h = some_same s rest h
+    go true ih h = option_same s rest h
     go false ih h = ih h
 
 -- the byte, and what is on its sides, make up the text
@@ -40,7 +33,7 @@ cut-length c (b ∷ s) rest e = go (eqb b c) (cut-length c s rest) e
     go : (t : Bool) → (after c s ≡ Some rest → length (before c s) + 1 + length rest ≡ length s)
         → cond t (Some s) (after c s) ≡ Some rest
         → length (cond t [] (b ∷ before c s)) + 1 + length rest ≡ length (b ∷ s)
-    go true ih h = let same = ap (λ (l : List ℕ). length l) (some_same s rest h) in omega (arith, same)
+    go true ih h = let same = ap (λ (l : List ℕ). length l) (option_same s rest h) in omega (arith, same)
     go false ih h = let same = ih h in omega (arith, same)
 
 -- after a text without one, more is cut as it would be alone
@@ -72,7 +65,7 @@ after-front c (b ∷ s) more rest e = go (eqb b c) (after-front c s more rest) e
     go : (t : Bool) → (after c s ≡ Some rest → after c (s ++ more) ≡ Some (rest ++ more))
         → cond t (Some s) (after c s) ≡ Some rest
         → cond t (Some (s ++ more)) (after c (s ++ more)) ≡ Some (rest ++ more)
-    go true ih h = ap (λ (l : List ℕ). Some (l ++ more)) (some_same s rest h)
+    go true ih h = ap (λ (l : List ℕ). Some (l ++ more)) (option_same s rest h)
     go false ih h = ih h
 
 -- before a text that has one, more leaves what is in front of it

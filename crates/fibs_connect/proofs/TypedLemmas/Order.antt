@@ -88,9 +88,9 @@ among-more server_heard later rest = refl
 among-more all_typed later rest = refl
 
 -- the lines that come are those that were typed, in their order
-pub lines-come-in-order : LinesComeInOrder
-lines-come-in-order [] typed rest c = ap kept_lines (sym c)
-lines-come-in-order (next ∷ later) typed rest c =
+pub lines_come_in_order : LinesComeInOrder
+lines_come_in_order [] typed rest c = ap kept_lines (sym c)
+lines_come_in_order (next ∷ later) typed rest c =
     one-comes next typed c.0 c.1
-    ∙ ap (λ (ls : List (List ℕ)). lines_among (next ∷ []) ++ ls) (lines-come-in-order later c.0 rest c.2)
+    ∙ ap (λ (ls : List (List ℕ)). lines_among (next ∷ []) ++ ls) (lines_come_in_order later c.0 rest c.2)
     ∙ among-more next later (kept_lines rest)
