@@ -36,6 +36,7 @@ fn layers_below()
 
 /// After every list of events none of which is refused, from every good first board on and for every login, the
 /// headline holds. Also, the server of the world never meets a stale line.
+#[tactic(auto, using(crate::proofs::RealLaws::real_headline, crate::proofs::RealLaws::real_stale))]
 pub fn headline()
     ensures headline { HeadlineHolds }
     ensures stale { NothingServedIsStale }
@@ -46,6 +47,7 @@ pub fn headline()
 /// After every such list the joint statement holds, which is the core of the headline: what was put on each wire to the
 /// client is there, was delivered, or was dropped at a loss; boards on which the user decides stay until a decision is
 /// served; at most one decision of a connection is not served; and a connection that did not log in yet shows no board.
+#[tactic(auto, using(crate::proofs::RealLaws::real_joint))]
 pub fn joint_statement()
     ensures { JointStatement }
 {
@@ -56,6 +58,7 @@ pub fn joint_statement()
 /// those that the server sent there, in their order. While the connection that is logged in is open, the last board
 /// sent there is the server's. At rest all of them are shown, so the board shown last is the server's, in all its
 /// fields; and if none is shown, the client sent its login there and nothing else.
+#[tactic(auto, using(crate::proofs::RealLaws::real_agrees, crate::proofs::RealLaws::real_only_login))]
 pub fn agrees()
     ensures agrees { AgreesHolds }
     ensures only_login { OnlyLoginHolds }
@@ -82,6 +85,7 @@ pub fn can_rest()
 
 /// While the user decides on the server's board, an event that is accepted leaves that board as it is, or one decision
 /// takes effect on it, and the board becomes one of another game.
+#[tactic(auto, using(crate::proofs::OnceLemmas::one_step))]
 pub fn one_step()
     ensures { OneStep }
 {
