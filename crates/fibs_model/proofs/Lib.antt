@@ -1,7 +1,6 @@
 -- Why the calls of a world do what the machine does, and why the headline holds of the machine.
 pub mod Following
 pub mod Likeness
-pub mod Portions
 pub mod needles
 pub mod Outcomes
 pub mod Lawful

@@ -26,7 +26,7 @@ use Rattle.fibs_model.proofs.joint.EachEvent.{is_open}
 use Rattle.fibs_model.proofs.ClientActs.{Does as ClientDoes, does, given, lines_at, asked_none}
 use Rattle.fibs_model.proofs.joint.Joint.{linked_same, linked_other}
 use Rattle.fibs_model.proofs.wires.Boards.{boards}
-use Rattle.fibs_model.proofs.Likeness.Hearing.{ends}
+use Rattle.fibs_lines.proofs.EndsCounted.{ends}
 use Rattle.fibs_model.proofs.Likeness.Events.{current_known, client_after, sound_after}
 use Rattle.fibs_model.proofs.Likeness.Links.{links_linked, length_set_link, link_set, link_was, value_path}
 

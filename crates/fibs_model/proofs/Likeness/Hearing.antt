@@ -1,13 +1,12 @@
 -- What the client hears, line by line.
-use Rattle.std.proofs.Common.{◌≡◌, ◌≤◌, ◌<◌, ◌+◌, ◌-◌, ◌*◌, ℕ, Bool, true, false, not, List, [], ◌∷◌, ◌++◌, Option, Some, None, length, take, drop, cond, if◌then◌else◌, refl, sym, ap, subst, ◌∙◌, arith, append-nil, append_assoc}
+use Rattle.std.proofs.Common.{◌≡◌, ◌≤◌, ◌<◌, ◌+◌, ◌-◌, ◌*◌, ℕ, Bool, true, false, not, List, [], ◌∷◌, ◌++◌, Option, Some, None, length, take, drop, if◌then◌else◌, refl, sym, ap, subst, ◌∙◌, arith, append-nil, append_assoc}
 use Rattle.std.specs.Prelude.{option_map}
-use Rattle.std.specs.List.{count_by}
 use Rattle.std.proofs.Math.Seq.{drop-append_seam}
 use Rattle.std.proofs.lemmas.List.{take-append-drop, length-append, take_all, length-drop}
-use Rattle.std.proofs.lemmas.List.Sums.{sum_by-append}
 use Rattle.std.proofs.lemmas.List.Concat.{flat_map-append}
-use Rattle.fibs_lines.specs.Lines.{ReadLine, lines_of, is_line_end}
+use Rattle.fibs_lines.specs.Lines.{ReadLine, lines_of}
 use Rattle.fibs_lines.specs.StreamLaws.{LinesAreAtMostTheLineEnds}
+use Rattle.fibs_lines.proofs.EndsCounted.{ends, ends-append}
 use Rattle.fibs_messages.specs.Line.{ReadingValue, numbered_line, board_line, text_line, malformed_line}
 use Rattle.fibs_session.specs.Calls.Doing.{Does}
 use Rattle.fibs_session.specs.Calls.Feeding.{Gains, FeedAnswers, commands_of, line_of_taken}
@@ -73,14 +72,6 @@ pub still_talking : (old new : ClientValue) (conn : ℕ) (p : List ℕ) (send : 
 still_talking old new conn p send t d h = record { stands = d.stands t h.stands; is_open = reads_open t p ∙ h.is_open }
 
 -- Line ends.
-
--- how many line ends are among the bytes
-abbrev pub ends : List ℕ → ℕ
-ends p = count_by is_line_end p
-
--- the line ends of two pieces are those of both
-ends-append : (p q : List ℕ) → ends (p ++ q) ≡ ends p + ends q
-ends-append p q = sum_by-append (λ x. cond (is_line_end x) 1 0) p q
 
 -- the line ends of a piece are those of a front and of what is left
 pub ends_split : (n : ℕ) (p : List ℕ) → ends p ≡ ends (take n p) + ends (drop n p)
@@ -308,14 +299,6 @@ hears_joined law a b c conn p q l0 l1 l2 x y z f g = record {
 -- `&rest[used..]`
 pub rest_is : (used : ℕ) (rest : List ℕ) → take (length rest - used) (drop used rest) ≡ drop used rest
 rest_is used rest = take_all (length rest - used) (drop used rest) (omega (arith, length-drop used rest))
-
--- a front of what is left, put after what was done, leaves the rest of it
-pub done_more : (all done rest : List ℕ) (used : ℕ) → all ≡ done ++ rest
-    → all ≡ (done ++ take used rest) ++ take (length rest - used) (drop used rest)
-done_more all done rest used e =
-    e ∙ ap (λ r. done ++ r) (sym (take-append-drop used rest)
-    ∙ ap (λ ys. take used rest ++ ys) (sym (rest_is used rest)))
-    ∙ sym (append_assoc done (take used rest) (take (length rest - used) (drop used rest)))
 
 -- a front that was read, and what was taken from it
 pub record Front (old new : ClientValue) (piece : List ℕ) (used : ℕ) (taken : Option TakenValue) : Type 0 where

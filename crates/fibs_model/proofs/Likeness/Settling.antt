@@ -21,19 +21,14 @@ use Rattle.fibs_model.specs.WorldCalls.{WorldStandsAfter, machine_after, Agrees}
 use Rattle.fibs_model.specs.LinksOf.{LinkValue, kept_of, link_at, no_link}
 use Rattle.fibs_model.specs.WorldOf.{WorldValue, StandsFor}
 use Rattle.fibs_session.proofs.History.Lists.{and_left, and_right}
+use Rattle.fibs_model.proofs.OnceLemmas.{all_append}
 use Rattle.fibs_model.proofs.Likeness.Stepping.{IsTold, if_told, stands_for}
-
--- the world after two lists of events
-all_several : (login : List ℕ) (w : World) (xs ys : List Event)
-    → after_all login w (xs ++ ys) ≡ after_all login (after_all login w xs) ys
-all_several login w [] ys = refl
-all_several login w (x ∷ xs) ys = all_several login (after login w x) xs ys
 
 -- the same, from the first board on
 after_several : (login : List ℕ) (first : BoardFields) (before es : List Event)
     → world_after login first (before ++ es) ≡ after_all login (world_after login first before) es
 unfolding world_after
-after_several login first before es = all_several login (start first) before es
+after_several login first before es = all_append login (start first) before es
 
 -- the last of events that are accepted is not refused
 last_accepted : (login : List ℕ) (w : World) (es : List Event) (e : Event) → AllAccepted login w (es ++ e ∷ [])

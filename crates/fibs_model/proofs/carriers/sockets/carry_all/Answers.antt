@@ -1,6 +1,6 @@
 use Rattle.std.proofs.Common.{[], ◌++◌, take, refl}
 use Rattle.std.proofs.KnownBytes.{Appends-nil, Appends-trans, Consumes-nil, Consumes-trans}
-use Rattle.fibs_model.proofs.Portions.{done_more}
+use Rattle.fibs_session.proofs.Calls.Runs.{done_and_rest}
 use Rattle.fibs_model.proofs.carriers.sockets.carry_all.Goals as goal
 
 pub loop-rest-init : goal.loop-rest-init
@@ -18,7 +18,7 @@ loop-rest-preserved g c =
     let n = c.min-count.result in
     record {
       done = i.done ++ take n rest;
-      whole = done_more c.args.bytes.now i.done rest n i.whole;
+      whole = done_and_rest c.args.bytes.now i.done rest n i.whole;
       written =
           Appends-trans (g.F.Write.contents c.args.from.now) (g.F.Write.contents c.loop-rest.from)
           (g.F.Write.contents c.carry.new.from) i.done (take n rest) i.written c.in_ok-carry.ensures.written;

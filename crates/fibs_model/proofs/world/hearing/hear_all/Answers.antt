@@ -1,6 +1,7 @@
 use Rattle.std.proofs.Common.{[], ◌++◌, take, vec_len, vec_capacity, refl, sym, subst}
 use Rattle.fibs_model.specs.HearingOf.{RoomForPiece}
-use Rattle.fibs_model.proofs.Likeness.Hearing.{hears_nothing, hears_joined, done_more, rest_is}
+use Rattle.fibs_model.proofs.Likeness.Hearing.{hears_nothing, hears_joined, rest_is}
+use Rattle.fibs_session.proofs.Calls.Runs.{done_and_rest}
 use Rattle.fibs_model.proofs.world.hearing.hear_all.Goals as goal
 
 pub loop-rest-init : goal.loop-rest-init
@@ -19,7 +20,7 @@ loop-rest-preserved c =
     let log = c.hear_line-used.new.log in
     record {
       done = i.done ++ take used rest;
-      whole = done_more c.args.piece.now i.done rest used i.whole;
+      whole = done_and_rest c.args.piece.now i.done rest used i.whole;
       heard =
           hears_joined c.pieces_join.ensures _ _ _ c.args.conn i.done (take used rest) _ _ _ _ _ _ i.heard
           c.hear_line-used.ensures.hears;
