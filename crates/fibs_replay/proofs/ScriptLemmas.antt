@@ -1,5 +1,4 @@
 -- Scripts of events, and the lines of the log.
-pub mod Splits
 pub mod EventTexts
 pub mod Events
 pub mod Lines

@@ -14,7 +14,7 @@ use Rattle.fibs_fields.specs.declared.fault.FieldFault.{FieldFault}
 use Rattle.fibs_messages.specs.Line.{ReadingValue, numbered_line, board_line, text_line, malformed_line, IsReading, IsBoardLine, ReadingIsExact, reading_value}
 use Rattle.fibs_replay.specs.EventReading.{said_board, board_in}
 use Rattle.fibs_replay.specs.Scripts.{IsNoBoard}
-use Rattle.fibs_replay.proofs.ScriptLemmas.Splits.{Without}
+use Rattle.fibs_commands.proofs.SplitLemmas.{Without}
 
 -- a text is read as a number exactly if it is written so
 abbrev pub DecimalsAreExact : Type 0

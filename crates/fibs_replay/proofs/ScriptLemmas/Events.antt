@@ -11,7 +11,7 @@ use Rattle.fibs_commands.specs.PlainReading.{TextField, no_text, rest_of_line, r
 use Rattle.fibs_model.specs.Events.{Event, Open, Click, Plain, Deliver, Lose, Serve, Own, Repeat, Text, Order, Withdraw}
 use Rattle.fibs_replay.specs.EventLines.{SaysEvent, says_open, says_click, says_plain, says_deliver, says_lose, says_serve, says_own, says_repeat, says_text, says_order, says_withdraw, count_limit, die_limit}
 use Rattle.fibs_replay.specs.EventReading.{◌>>=◌, alone_in, board_in, serving_in, joined_in, event_of_word, of_roll, event_in, EventsAreExact}
-use Rattle.fibs_replay.proofs.ScriptLemmas.Splits.{from, before_and_from, split_there}
+use Rattle.fibs_commands.proofs.SplitLemmas.{from, before_and_from, split_there}
 use Rattle.fibs_replay.proofs.ScriptLemmas.EventTexts.{DecimalsAreExact, BoardsAreExact, number_apart}
 
 -- what the readings of the parts say

@@ -10,7 +10,7 @@ use Rattle.bstr.specs.Text.{line_len, lines_of, no_cr, without_terminator}
 use Rattle.bstr.proofs.lemmas.LineLemmas.{lines-nil, lines-step}
 use Rattle.fibs_fields.specs.Split.{before, after}
 use Rattle.fibs_replay.specs.Scripts.{script_lines}
-use Rattle.fibs_replay.proofs.ScriptLemmas.Splits.{Without, from, before_and_from, before_without}
+use Rattle.fibs_commands.proofs.SplitLemmas.{Without, from, before_and_from, before_without}
 
 -- the parts after the first line end
 abbrev parts_after : Option (List ℕ) → List (List ℕ)
