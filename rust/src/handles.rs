@@ -1,8 +1,8 @@
 //! What C holds: pointers to what the library made, and slices that C gives. Written by hand.
 #![allow(unsafe_code)]
 
-use crate::fibs_messages::directory::Directory;
 use crate::fibs_lines::Lines;
+use crate::fibs_messages::directory::Directory;
 use crate::fibs_session::Client;
 use std::{ptr, slice};
 

@@ -69,9 +69,8 @@ pub use client::{Client, Heard};
 pub use fibs_commands::{
     AnswerText, CommandText, Login, Plain, PlainFault, decision_text, plain_text, read_command, read_plain,
 };
-pub use fibs_messages::directory::{Directory, DirectoryFault, Player};
-pub use fibs_session::{Outstanding, PlainRefusal, Refusal};
 pub use fibs_lines::{Fed, LIMIT, Line, Lines, WholeLine, sent_line};
+pub use fibs_messages::directory::{Directory, DirectoryFault, Player};
 pub use fibs_messages::{
     Board, Fault, Field, FieldFault, Message, Name, OwnInfo, Reading, Tail, WhoInfo, Word, is_board_line,
     message_number, print_message, read, read_decimal,
@@ -80,6 +79,7 @@ pub use fibs_position::{
     Decision, Direction, Disallowed, Phase, Play, Position, PositionFault, Stake, Step, differs, effect, is_die,
     is_good, phase_of,
 };
+pub use fibs_session::{Outstanding, PlainRefusal, Refusal};
 pub use lines::{OwnedLine, OwnedLines, ReadLines};
 pub use rattle::alloc::AllocError;
 

@@ -1,10 +1,10 @@
 //! Conversations, with streams in memory and on real sockets.
 
 use super::outcomes::assert_is;
+use crate::fibs_connect::watch::Unwatched;
 use crate::fibs_connect::{converse, converse_with};
 use crate::fibs_engine::dial::Dial;
 use crate::fibs_engine::fault::EngineFault;
-use crate::fibs_connect::watch::Unwatched;
 use crate::fibs_test_tools::devices::Endless;
 use crate::fibs_test_tools::named::Named;
 use crate::fibs_test_tools::outcome::Outcome;

@@ -1,11 +1,11 @@
 //! What was printed is shown before the program waits: for the server, for a typed line, for a connection.
 
+use crate::fibs_cli::objects::front::Objects;
+use crate::fibs_connect::watch::Unwatched;
 use crate::fibs_connect::{converse_on, converse_with};
 use crate::fibs_engine::dial::Dial;
 use crate::fibs_engine::fault::EngineFault;
 use crate::fibs_engine::link::Link;
-use crate::fibs_connect::watch::Unwatched;
-use crate::fibs_cli::objects::front::Objects;
 use crate::fibs_test_tools::pipe::{After, Pipe};
 use crate::rattle::cell::Cell;
 use crate::rattle::io;

@@ -1,10 +1,10 @@
 //! The engines that print JSON objects, over streams in memory.
 use super::outcomes::assert_is;
+use crate::fibs_cli::objects::replay::replay_json;
 use crate::fibs_engine::fault::EngineFault;
 use crate::fibs_json::plays::plays_json;
 use crate::fibs_json::show::show_json;
 use crate::fibs_json::told::told_line;
-use crate::fibs_cli::objects::replay::replay_json;
 use crate::fibs_test_tools::outcome::Outcome;
 use crate::fibs_test_tools::pipe::{After, FAULT, Pipe};
 
