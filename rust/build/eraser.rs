@@ -32,8 +32,11 @@ pub const WRITTEN: &[(&str, &str)] = &[
     ("fn main(", "pub fn main("),
     // rustc would leave it a call, at each line
     ("pub(crate) fn limited(", "#[inline(always)] pub(crate) fn limited("),
+    // no other `cfg` is the same in both
+    ("#[cfg(test)]", "#[cfg(test)]"),
     // it would compare these bytes one by one
-    ("[b'b', b'o', b'a', b'r', b'd', b':', ..]", "_ if line.starts_with(b\"board:\")"),
+    ("matches!($, [b'b', b'o', b'a', b'r', b'd', b':', ..]", "matches!($, _ if $.starts_with(b\"board:\")"),
+    ("match $ { [b'b', b'o', b'a', b'r', b'd', b':', ..]", "match $ {\n        _ if $.starts_with(b\"board:\")"),
     // the crate finds out at each call what the processor has
     ("memchr2(b'\\n', 255, window)", "crate::rattle::simd::first_of(b'\\n', 255, window)"),
     ("fn reserve(", "fn may_reserve("),
@@ -53,15 +56,27 @@ pub const MAY: [&[&str]; 2] = [
     &["extend_from_slice", "reserve_exact", "push_reserved"],
 ];
 
+/// Calls of such a name that are not tested: they take no memory, or are matched. Any other is refused if it is no
+/// statement: in a statement Rattle lets no `Result` go unused.
+#[rustfmt::skip]
+pub const OTHERS: &[&str] = &[
+    "match error.to_string", "names.insert", "play.push", "served.entry", "spot.insert", "text.push_str",
+    "u8x16::from_slice", "u8x32::from_slice", "u8x64::from_slice",
+];
+
+/// What an allocator that becomes a variable is taken from.
+pub const VARIABLES: &[&str] = &["$.alloc", "$.alloc()", "$.$.alloc", "*$.$.allocator()"];
+
 /// Crates that `crate::rattle` stands for, and crates that are the same in Rust.
 pub const RATTLE: &[&str] = &["std", "itoa", "mio", "jiff", "clap", "libc"];
 pub const SAME: &[&str] = &["arrayvec", "bstr", "indexmap", "memchr", "thiserror", "unicode_width"];
 
 /// The attributes that Rust has too.
-pub const ATTRIBUTES: &[&str] = &["cfg", "derive", "error", "inline", "repr", "unsafe"];
+pub const ATTRIBUTES: &[&str] = &["derive", "error", "inline", "repr", "unsafe"];
 
 /// Words of Rattle, which mean nothing to Rust, or something else.
-pub const WORDS: &[&str] = &["Drop", "Global", "Model", "alloc", "ensures", "ghost", "prove", "requires", "tactic"];
+pub const WORDS: &[&str] =
+    &["Drop", "Global", "Model", "alloc", "cfg", "ensures", "ghost", "prove", "requires", "tactic"];
 
 /// What is erased together: each crate becomes a module of its name.
 pub struct Plan<'a> {
@@ -227,7 +242,9 @@ impl Eraser<'_> {
                 _ => {}
             }
         }
-        self.function = if token.text == "fn" { self.out.len() } else { self.function };
+        // the type `fn(..)` has no name
+        let is_function = token.text == "fn" && self.is_word(self.next(self.at + 1));
+        self.function = if is_function { self.out.len() } else { self.function };
         self.out.push(token);
         self.at += 1;
         Ok(())
@@ -352,9 +369,9 @@ impl Eraser<'_> {
     }
 
     fn alloc(&mut self) -> Result<bool, String> {
-        if self.follows("let alloc =").is_some() {
+        if let Some(end) = VARIABLES.iter().find_map(|from| self.follows(&format!("let alloc = {from};"))) {
             self.pop(false);
-            return self.emit("", self.find(";")? + 1);
+            return self.emit("", end);
         }
         let forms = ["$alloc: ident", "$alloc", "alloc: Global", "_alloc: Global", "self.alloc", "rt.alloc()", "alloc"];
         let Some(end) = forms.iter().find_map(|form| self.follows(form)) else { return Ok(false) };
@@ -433,10 +450,22 @@ impl Eraser<'_> {
         let after = self.closing(self.at + 1)? + 1;
         let is_expected = self.text(after) == "." && matches!(self.text(after + 1), "expect" | "is_ok");
         if MAY[0].contains(&name) && !is_expected && self.text(after) != "?" {
-            return Ok(false);
+            let is_known = self.is_other(name, after);
+            return if is_known { Ok(false) } else { Err(format!("what `{name}` gives is not tested at once")) };
         }
         self.uses.insert("use crate::rattle::may::*;\n");
         self.emit(&format!("may_{}", self.text(self.at)), self.at + 1)
+    }
+
+    /// Whether a call of this name, which ends before `after`, is one of `OTHERS` or a statement.
+    fn is_other(&self, name: &str, after: usize) -> bool {
+        let is_path = |token: &Token| token.kind == Kind::Word || matches!(token.text.as_str(), "." | "::");
+        let start = self.out.iter().rposition(|token| is_code(token) && !is_path(token)).map_or(0, |at| at + 1);
+        let before = start.checked_sub(1).map_or(";", |at| &self.out[at].text);
+        let path = self.out[start..].iter().map(|token| token.text.as_str()).collect::<String>() + name;
+        let path = path.trim_start();
+        let is_statement = matches!((before, self.text(after)), (";" | "{" | "}", ";"));
+        OTHERS.contains(&path) || is_statement && !path.starts_with('.') && !path.contains(' ')
     }
 
     /// The first place from `at` on that is no space and no comment.

@@ -3,7 +3,7 @@
 #[path = "../build/eraser.rs"]
 mod eraser;
 
-use eraser::{ATTRIBUTES, FORMS, MAY, Plan, RATTLE, SAME, WORDS, WRITTEN, erase, erase_all};
+use eraser::{ATTRIBUTES, FORMS, MAY, OTHERS, Plan, RATTLE, SAME, VARIABLES, WORDS, WRITTEN, erase, erase_all};
 use std::fs;
 use std::path::Path;
 
@@ -173,6 +173,21 @@ fn each_form_that_is_written_in_another_way_is() {
 }
 
 #[test]
+fn the_text_that_is_matched_is_looked_at() {
+    let board = "[b'b', b'o', b'a', b'r', b'd', b':', ..]";
+    for (before, named, after) in [
+        ("fn f(line: &[u8], rest: &[u8]) { matches!(rest, ", "_ if rest.starts_with(b\"board:\")", ") }"),
+        ("match rest {\n        ", "_ if rest.starts_with(b\"board:\")", " => f(line),\n}"),
+        // these take a pattern of Rust too
+        ("fn f(line: &[u8], a: A) { matches!(a.rest, ", board, ") }"),
+        ("match line {\n    [] => 0,\n    ", board, " => 1,\n}"),
+    ] {
+        let rattle = format!("{before}{board}{after}");
+        assert_eq!(rust_of(&rattle), Ok(format!("{before}{named}{after}")), "{rattle}");
+    }
+}
+
+#[test]
 fn each_call_that_may_fail_is_renamed() {
     for name in MAY.concat() {
         let wanted = format!("use crate::rattle::may::*;\na.may_{name}(b)?");
@@ -180,6 +195,17 @@ fn each_call_that_may_fail_is_renamed() {
         assert_eq!(rust_of(&format!("{name}(b)?")), Ok(format!("{name}(b)?")), "it is no method");
         let wanted = if MAY[0].contains(&name) { "" } else { "may_" };
         assert!(rust_of(&format!("a.{name}(b);")).unwrap().ends_with(&format!("a.{wanted}{name}(b);")));
+    }
+    for call in OTHERS {
+        assert_eq!(rust_of(&format!("let a = {call}(b);")), Ok(format!("let a = {call}(b);")));
+    }
+}
+
+#[test]
+fn an_allocator_is_no_variable() {
+    for from in VARIABLES {
+        let from = from.replace('$', "a");
+        assert_eq!(rust_of(&format!("{{\n    let alloc = {from};\n    b\n}}")).as_deref(), Ok("{\n    b\n}"), "{from}");
     }
 }
 
@@ -220,6 +246,21 @@ const REFUSED: &[(&str, usize, &str)] = &[
     ("extern \"C\" fn f(a: &[[u8; 2]]) {}", 1, "the items of a slice for C have a name"),
     ("fn f() { a.push(1", 1, "no bracket closes `(`"),
     ("ghost a = 1;", 1, "`ghost` begins no form that is known"),
+    (
+        "let alloc = match items.pop() { Some(_) => page.alloc, None => page.alloc };",
+        1,
+        "`alloc` is not of Rust, in a form that is not known",
+    ),
+    ("let alloc = self.taken(1).alloc;", 1, "`alloc` is not of Rust, in a form that is not known"),
+    ("fn f() {\n    let _left = items.push(x);\n}", 2, "what `push` gives is not tested at once"),
+    ("let _ = Vec::push(&mut items, x);", 1, "what `push` gives is not tested at once"),
+    ("drop(self.names.insert(name, 1));", 1, "what `insert` gives is not tested at once"),
+    ("let _n = a.map(|x| { kept.push(x) }).count();", 1, "what `push` gives is not tested at once"),
+    ("let _r = match a {\n    A => kept.push(1),\n    B => {}\n};", 2, "what `push` gives is not tested at once"),
+    ("let _r = loop { break kept.push(1); };", 1, "what `push` gives is not tested at once"),
+    ("let _r = A { kept }.kept.push(1);", 1, "what `push` gives is not tested at once"),
+    ("#[cfg(target_pointer_width = \"64\")]\nfn f() {}", 1, "the attribute `cfg` is not known"),
+    ("if cfg!(target_pointer_width = \"64\") {}", 1, "`cfg` is not of Rust, in a form that is not known"),
 ];
 
 #[test]
@@ -238,9 +279,10 @@ fn what_asks_of_its_callers_is_named() {
     let text = concat!(
         "pub fn f(a: u8)\n    requires { a ≤ 4 }\n{}\n\npub trait T {\n    fn g(a: u8)\n",
         "        requires { a ≤ 4 };\n    fn h(a: u8)\n        ensures { true };\n}\n\nfn own(a: u8)\n",
+        "    requires { a ≤ 4 }\n{}\n\npub fn pick(\n    of: fn(u8) -> u8,\n    a: u8,\n)\n",
         "    requires { a ≤ 4 }\n{}",
     );
-    assert_eq!(erase(text, "fibs_lines", &PLAN).unwrap().1, ["f", "T::g"]);
+    assert_eq!(erase(text, "fibs_lines", &PLAN).unwrap().1, ["f", "T::g", "pick"]);
 }
 
 #[test]
