@@ -1,14 +1,14 @@
 //! A second look at the eraser, by another way: it compares lines, and knows no token and no form but how a proof
 //! begins and the rules of `rules.rs`.
 //!
-//! What is erased is to have the lines of the source that lie in no proof, as the rules make them. Each line that differs
-//! is printed, but for `use`s and comments: with `-` if it is one of those, with `+` if the erased text has it.
+//! What is erased is to have the lines of the source that lie in no proof, as the rules make them. Each line that
+//! differs is printed, but for comments: with `-` if it is one of those, with `+` if the erased text has it.
 
 mod rules;
 
-use rules::{BODILESS, Counts, INSIDE, count, made};
+use rules::{BODILESS, Counts, INSIDE, count, is_code, made};
 
-use std::collections::HashMap;
+use std::collections::{HashMap, HashSet};
 use std::fs;
 use std::path::{Path, PathBuf};
 
@@ -16,30 +16,41 @@ use std::path::{Path, PathBuf};
 const PROOFS: &[&str] =
     &["ghost ", "pub ghost ", "requires", "ensures", "#[tactic", "#![tactic", "#[derive(Drop)]", "impl Model for"];
 
-/// What of the crates that are erased in a folder, but for files by hand, was made by the rules, and how often; and what
-/// was not.
-pub fn changed(crates: &Path, erased: &Path, names: &[&str], by_hand: &[(&str, &str, &str)]) -> String {
-    let (mut told, mut counts) = (String::new(), Counts::new());
-    for name in names {
-        for path in sources(&crates.join(name).join("src")) {
-            let file = path.strip_prefix(crates.join(name).join("src")).unwrap().with_extension("rs");
-            if by_hand.iter().any(|row| row.0 == *name && file == Path::new(row.1).with_extension("rs")) {
-                continue;
-            }
-            let file = if matches!(file.to_str(), Some("lib.rs" | "main.rs")) { "mod.rs".into() } else { file };
-            let new = fs::read_to_string(erased.join(name).join(file)).unwrap();
-            let old = made(kept(&fs::read_to_string(&path).unwrap(), &mut counts), &mut counts);
+/// Crates that are erased together into a folder, and what is written by hand in place of a file.
+pub struct Build {
+    pub folder: PathBuf,
+    pub crates: Vec<String>,
+    pub by_hand: &'static [(&'static str, &'static str, &'static str)],
+}
+
+/// How often each rule made another line of the sources, the lines that no rule makes, and what is written by hand. A
+/// file that two builds have alike is looked at once.
+pub fn changed(crates: &Path, builds: &[Build]) -> String {
+    let (mut told, mut by_hand, mut counts, mut seen) = (String::new(), String::new(), Counts::new(), HashSet::new());
+    for (build, name) in builds.iter().flat_map(|build| build.crates.iter().map(move |name| (build, name))) {
+        let source = crates.join(name).join("src");
+        for path in sources(&source) {
+            let file = path.strip_prefix(&source).unwrap().with_extension("");
+            let shown = format!("{name}/src/{}.rt:\n", file.display()).replace('\\', "/");
+            let is_by_hand = build.by_hand.iter().any(|row| row.0 == name && file == Path::new(row.1));
+            let file = if matches!(file.to_str(), Some("lib" | "main")) { "mod".into() } else { file };
+            let new = fs::read_to_string(build.folder.join(name).join(file).with_extension("rs")).unwrap();
             let new: Vec<String> =
-                new.lines().map(|line| line.trim_end().into()).filter(|line: &String| !line.is_empty()).collect();
-            let lines: Vec<String> = differing(&old, &new);
-            if !lines.is_empty() {
-                let file = path.strip_prefix(crates).unwrap().display().to_string().replace('\\', "/");
-                told += &format!("{file}:\n{}\n", lines.join("\n"));
+                new.lines().filter(|line| is_code(line)).map(|line| line.trim_end().into()).collect();
+            if is_by_hand {
+                by_hand += &(shown + &if new.is_empty() { "  nothing\n".into() } else { differing(&[], &new) });
+            } else if seen.insert((path.clone(), new.clone())) {
+                let old = made(name, kept(&fs::read_to_string(&path).unwrap(), &mut counts), &mut counts);
+                let lines = differing(&old, &new);
+                told += &if lines.is_empty() { lines } else { shown + &lines };
             }
         }
     }
     let rules: String = counts.iter().map(|(rule, count)| format!("{count:5} {rule}\n")).collect();
-    format!("How often each rule makes another line of one of the sources:\n{rules}\nLines that no rule makes:\n{told}")
+    format!(
+        "How often each rule makes another line of one of the sources, but for paths:\n{rules}\nLines that no rule makes:\n{told}\n\
+         What is written by hand in place of a file:\n{by_hand}"
+    )
 }
 
 fn sources(folder: &Path) -> Vec<PathBuf> {
@@ -75,7 +86,8 @@ fn kept(source: &str, counts: &mut Counts) -> Vec<String> {
             }
         }
         if is_proof {
-            let marked = |marks: [char; 3]| text.chars().filter(|c| marks.contains(c)).count() as i64;
+            let unquoted = text.split('"').step_by(2).flat_map(str::chars);
+            let marked = |marks: [char; 3]| unquoted.clone().filter(|c| marks.contains(c)).count() as i64;
             open += marked(['(', '[', '{']) - marked([')', ']', '}']);
             if is_clause && open == 0 && text.ends_with(';') {
                 count(counts, BODILESS);
@@ -88,8 +100,8 @@ fn kept(source: &str, counts: &mut Counts) -> Vec<String> {
     lines
 }
 
-/// The lines of code that only one has, in order.
-fn differing(old: &[String], new: &[String]) -> Vec<String> {
+/// The lines that only one has, in order.
+fn differing(old: &[String], new: &[String]) -> String {
     let ids: HashMap<&String, usize> = old.iter().chain(new).zip(0..).collect();
     let (a, b): (Vec<_>, Vec<_>) =
         (old.iter().map(|line| ids[line]).collect(), new.iter().map(|line| ids[line]).collect());
@@ -103,18 +115,17 @@ fn differing(old: &[String], new: &[String]) -> Vec<String> {
             row[j] = if a[i] == b[j] { below[j + 1] + 1 } else { below[j].max(row[j + 1]) };
         }
     }
-    let (mut i, mut j, mut lines) = (same, same, Vec::new());
+    let (mut i, mut j, mut lines) = (same, same, String::new());
     while i < a.len() || j < b.len() {
         if i < a.len() && j < b.len() && a[i] == b[j] {
             (i, j) = (i + 1, j + 1);
         } else if j == b.len() || i < a.len() && common[i + 1][j] >= common[i][j + 1] {
-            lines.push(format!("  - {}", old[i].trim()));
+            lines += &format!("  - {}\n", old[i].trim());
             i += 1;
         } else {
-            lines.push(format!("  + {}", new[j].trim()));
+            lines += &format!("  + {}\n", new[j].trim());
             j += 1;
         }
     }
-    lines.retain(|line| !["//", "use ", "pub use "].iter().any(|begins| line[4..].starts_with(begins)));
     lines
 }
