@@ -34,6 +34,8 @@ SAID = re.compile(r'\d\d:\d\d ')
 # the server refuses a double; a game begins, or goes on after a pause, of which nothing of before is known
 FORBIDS = re.compile(r"\*\* (?:You can't double|The Crawford rule)")
 BEGINS = re.compile('connected to |Starting a new game with |You are now playing with |\\S+ has joined you')
+# how a row begins for a connection that the server has accepted: the server may end one while the client still connects
+ATTEMPTS = 'connected to ', 'no connection to '
 # how the second of two rows begins
 SECOND = 'or join ', 'then open', 'If the game goes on'
 HINT_ALONE = ('hint', 'go on', 'answer', 'board', 'doubles', 'next', 'gone', 'invited', 'auto', 'open')
@@ -87,7 +89,7 @@ class Seat:
         self.chance = game.chance
         self.begin(port)
         self.half, self.picture, self.rows = b'', Picture(), deque(maxlen=80)
-        # what is sent on each connection by the screen
+        # what is sent on each connection by the screen, also on one that ended while the client was connecting
         self.sent = []
         # what the rows have named since the last line that was typed; and what was typed last, and why
         self.row, self.inviting, self.typed, self.why = None, None, '', ''
@@ -143,7 +145,7 @@ class Seat:
             self.since_move += 1
         if picture := self.picture.takes(row):
             self.judge_picture(picture)
-        if row.startswith('connected to '):
+        if row.startswith(ATTEMPTS):
             self.sent.append([])
         if FORBIDS.match(row):
             self.has_refused_double = True

@@ -18,7 +18,7 @@ import sys
 import time
 from collections import Counter
 
-from people import Failed
+from people import Failed, same
 from seats import Seat
 from witness import Wire, Witnessed, unlike
 
@@ -256,7 +256,31 @@ def in_short(result):
         result['ended'], *(result[kind][:1] for kind in ('stalls', 'alarms', 'faults')))
 
 
-SCENES = [thirty_matches_by_the_screen_alone]
+class Unseated(Seat):
+    """A seat at which no program runs: a scene gives it the rows that it reads."""
+
+    def begin(self, port):
+        pass
+
+
+def what_is_sent_after_a_connection_that_ended_at_once():
+    """The server accepts a connection, and resets it while the client is still connecting. What comes on the next one is
+    compared with the rows of that one."""
+    game = Game(0, SEED)
+    game.room = Witnessed(time.monotonic, game.names, game.habits)
+    name, other = game.names
+    seat = Unseated(game, name, other, 0)
+    for row in ('connected to 127.0.0.1:4321', 'sent roll', 'lost: open connects again, quit ends',
+                'no connection to 127.0.0.1:4321: connection reset; open tries again',
+                'connected to 127.0.0.1:4321', 'sent move 8-5 6-5'):
+        seat.reads(row)
+    for number, lines in enumerate((['roll'], [], ['move 8-5 6-5'])):
+        game.links[name].append(Wire(game.room, game.manners[0], number))
+        game.links[name][-1].lines += lines
+    same('what was sent otherwise', game.sent_otherwise(seat), [])
+
+
+SCENES = [thirty_matches_by_the_screen_alone, what_is_sent_after_a_connection_that_ended_at_once]
 
 
 def main():
