@@ -87,24 +87,8 @@ def ctrl_c_cancels_the_line_and_not_the_game(server):
         player.is_shown('Ctrl-C again leaves', 2)
         player.type_bytes(b'\x03')
         player.ends(0)
-        same('the terminal is as it was', (player.echoes(), interrupts(player)), (True, b'\x03'))
+        same('the terminal is as it was', (player.echoes(), player.interrupts()), (True, b'\x03'))
         player.close()
-
-
-def interrupts(player):
-    """The key that interrupts on a terminal."""
-    import termios
-    return termios.tcgetattr(player.fd)[6][termios.VINTR]
-
-
-def no_key_interrupts(player):
-    """Waits until fibs-play has gone on, and has taken this meaning from the key."""
-    end = time.monotonic() + PATIENCE
-    while interrupts(player) == b'\x03':
-        if time.monotonic() > end:
-            raise Failed('the key still interrupts')
-        time.sleep(0.02)
-    player.shown(0.3)
 
 
 @with_server
@@ -115,7 +99,7 @@ def ctrl_c_after_a_stop(server):
     player.is_stopped()
     same('echo of the shell', player.echoes(), True)
     player.to_the_foreground()
-    no_key_interrupts(player)
+    player.edits_lines()
     player.type_bytes(b'tell eve never')
     player.is_shown('tell eve never')
     player.type_bytes(b'\x03')

@@ -1,5 +1,6 @@
-"""fibs-play where lines are edited: a window of another width, a title that is put back, names that Tab knows."""
+"""fibs-play where lines are edited: a window of another width, a title that is put back, stops, names that Tab knows."""
 
+import fcntl
 import os
 import pathlib
 import re
@@ -8,7 +9,7 @@ import tempfile
 
 from escapes import BOARD
 from partners import NARROW, board_of
-from people import DRAWN, PASSWORD, Listener, begun, greeted, has_received, leaves, same
+from people import DRAWN, PASSWORD, Listener, begun, greeted, has_received, leaves, named, same
 from terminals import RLWRAP
 
 SCENES = []
@@ -133,11 +134,88 @@ def a_shell_above_the_program_stops_with_it():
         ann.type('say back')
         ann.sees('sent say back')
         ann.hangs_up()
-        # the signal ends the program; the end of what is typed would too, with status 0
+        # the signal ends the program, or the end of what is typed, whichever it sees first
         same('the ending', ann.report() in (['ended', '129'], ['ended', '0']), True)
         has_received(server, 'say back')
         ann.close()
     server.close()
+
+
+# A stty in front of the system's, and what it does first: it takes a while between what it reads and what it writes.
+STTY = """#!/bin/sh
+PATH=${PATH#*:}
+%sexec stty "$@"
+"""
+SLOW = """[ "$*" != 'intr undef' ] || { was=$(stty -g); sleep 0.6; stty "$was"; }
+"""
+
+
+def with_stty(first=''):
+    """A decorator: the scene is given a server, ann, whose lines are edited, and the stty that fibs-play finds."""
+    def decorated(does):
+        def run():
+            if not RLWRAP:
+                return
+            server = Listener()
+            with tempfile.TemporaryDirectory() as room:
+                stty = pathlib.Path(room, 'stty')
+                stty.write_text(STTY % first)
+                stty.chmod(0o755)
+                ann = plays(server, PATH=room + ':' + os.environ['PATH'])
+                ann.edits_lines()
+                does(server, ann, stty)
+            server.close()
+        return scene(named(run, does))
+    return decorated
+
+
+def stops(ann):
+    """Ctrl-Z."""
+    ann.type_bytes(b'\x1a')
+    ann.is_stopped()
+
+
+@with_stty(SLOW)
+def lines_are_edited_after_a_stop(server, ann, _):
+    """Ctrl-Z and fg, and the script goes on before rlwrap does: what one has set the other does not undo."""
+    stops(ann)
+    os.kill(ann.job, signal.SIGCONT)
+    ann.shown(0.3)
+    ann.to_the_foreground()
+    ann.shown(1)
+    ann.edits_lines()
+    ann.type('say back')
+    same('what was sent', server.line(), 'say back')
+    leaves(ann, server, 'say back')
+
+
+@with_stty()
+def a_stop_right_after_a_stop(server, ann, stty):
+    """Ctrl-Z, fg, and Ctrl-Z while a stty that the script may begin then is held before it has begun: by a lease on its
+    file, of which its holder hears by a signal that it ignores."""
+    stops(ann)
+    with open(stty) as held:
+        try:
+            fcntl.fcntl(held, fcntl.F_SETSIG, signal.SIGURG)
+            fcntl.fcntl(held, fcntl.F_SETLEASE, fcntl.F_WRLCK)
+        except OSError:
+            print('        without leases on files: not tried', flush=True)
+        ann.to_the_foreground()
+        ann.edits_lines()
+        ann.shown(0.3)
+        stops(ann)
+    ann.to_the_foreground()
+    ann.edits_lines()
+    leaves(ann, server)
+
+
+@with_stty(SLOW)
+def the_status_after_a_stop(server, ann, _):
+    """Ctrl-Z, fg, and quit at once: the status is that of the program."""
+    stops(ann)
+    ann.to_the_foreground()
+    ann.edits_lines()
+    leaves(ann, server)
 
 
 def listing(names):

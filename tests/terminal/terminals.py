@@ -1,6 +1,7 @@
 """Pseudo-terminals for the tests: a command in the foreground of a shell of one job, and one who types and looks."""
 
 import fcntl
+import glob
 import os
 import select
 import shutil
@@ -37,6 +38,12 @@ PASSWORD = 'hunter' + os.urandom(4).hex()
 
 # What the processor's time is counted in.
 TICKS = os.sysconf('SC_CLK_TCK')
+
+
+def told(path):
+    """What a file of the system tells of a process, from its state on."""
+    with open(path) as stat:
+        return stat.read().rsplit(')', 1)[1].split()
 
 
 class Terminal:
@@ -142,8 +149,10 @@ class Terminal:
                 self.at = len(self.seen)
 
     def is_stopped(self):
-        """It stops within a while, and the shell has the terminal again."""
+        """It stops within a while, and the shell has the terminal again. What the job's process has begun stops too: who
+        types `fg` is slower than that, and what goes on before it has stopped does not know that it was stopped."""
         same('the job', self.report(), ['stopped'])
+        self.wait_until('what the job has begun stops', lambda: set(self.states_below()) <= {'T', 'Z'})
 
     def to_the_foreground(self):
         """The shell's `fg`."""
@@ -156,6 +165,17 @@ class Terminal:
     def echoes(self):
         """Whether the terminal shows what is typed."""
         return bool(termios.tcgetattr(self.fd)[3] & termios.ECHO)
+
+    def interrupts(self):
+        """The key that interrupts."""
+        return termios.tcgetattr(self.fd)[6][termios.VINTR]
+
+    def edits_lines(self):
+        """Waits until each key is read by a program that shows it, and none interrupts."""
+        def is_so():
+            modes = termios.tcgetattr(self.fd)
+            return not modes[3] & (termios.ICANON | termios.ECHO) and modes[6][termios.VINTR] == b'\0'
+        self.wait_until('lines are edited', is_so)
 
     def looks_away(self):
         """Reads nothing more of what is shown."""
@@ -179,16 +199,30 @@ class Terminal:
 
     def told(self):
         """What the system tells of the job's process, from its state on."""
-        with open('/proc/%d/stat' % self.job) as stat:
-            return stat.read().rsplit(')', 1)[1].split()
+        return told('/proc/%d/stat' % self.job)
+
+    def states_below(self):
+        """The states of the processes that the job's process has begun."""
+        for path in glob.glob('/proc/[0-9]*/stat'):
+            try:
+                state, parent = told(path)[:2]
+            except OSError:
+                # it is over
+                continue
+            if int(parent) == self.job:
+                yield state
 
     def is_waiting(self):
         """Waits until the job waits: a shell that has not begun to read yet may let a signal wait for the next key."""
+        self.wait_until('the job waits', lambda: self.told()[0] == 'S')
+
+    def wait_until(self, what, is_so):
+        """Waits until it is so."""
         end = time.monotonic() + PATIENCE
-        while self.told()[0] != 'S':
+        while not is_so():
             if time.monotonic() > end:
-                raise Failed('the job never waits')
-            time.sleep(0.001)
+                raise Failed('never: %s' % what)
+            time.sleep(0.002)
 
     def close(self):
         """Whatever it does, it is over."""
