@@ -25,9 +25,9 @@ from witness import Wire, Witnessed, unlike
 from habits import AUTOROLLS, WITHOUT, Habits
 from wire import Manners
 
-# How long a match may take, and the program its last row.
+# How long a match may take, the program its last row, and a busy machine what is missing then.
 LONGEST = 400
-LAST_ROW = 0.4
+LAST_ROW, LATE = 0.4, 20
 
 # What the gate plays.
 MATCHES, BESIDE, SEED = 30, 10, 1
@@ -100,12 +100,20 @@ class Game:
             players = [asyncio.ensure_future(seat.plays()) for seat in self.seats]
             while not self.room.ended and time.monotonic() - began < LONGEST:
                 await asyncio.sleep(0.05)
+            took = time.monotonic() - began
             await asyncio.sleep(LAST_ROW + max(manners.delay for manners in self.manners) / 1000)
-            return self.found(time.monotonic() - began)
+            await self.settles()
+            return self.found(took)
         finally:
             for one in players:
                 one.cancel()
             self.close()
+
+    async def settles(self):
+        """Waits for lines and rows that are still on their way: what never comes is missing for good."""
+        end = time.monotonic() + LATE
+        while time.monotonic() < end and any(map(self.sent_otherwise, self.seats)):
+            await asyncio.sleep(0.1)
 
     async def invite(self):
         """The first player invites the other until the match has begun."""
