@@ -125,3 +125,24 @@ static LISTS: [Scene; 4] = [
 fn a_list_that_was_asked_for_is_answered() {
     assert_scenes(plain_settings(), &LISTS);
 }
+
+/// The user is not among the players, who are listed by how near their ratings are to his.
+static PLAYERS: [Scene; 1] = [(
+    &[
+        Cue::Hears(b"5 dave - - 1 0 900.05 0 0 1 host - -\r\n"),
+        Cue::Hears(b"5 ann - - 1 0 1500.00 0 0 1 host - -\r\n"),
+        Cue::Hears(b"5 bob - - 1 0 1623.45 0 0 1 host - -\r\n"),
+        Cue::Hears(b"6\r\n"),
+        Cue::Types(b"players"),
+    ],
+    "player                  rating  points    idle   does
+bob                    1623.45       0     0 m   ready
+dave                    900.05       0     0 m   ready
+2 players.
+",
+)];
+
+#[test]
+fn the_user_is_not_listed() {
+    assert_scenes(plain_settings(), &PLAYERS);
+}

@@ -1,6 +1,6 @@
 //! What a terminal remembers, and for how long.
 
-use super::lines::{FIRST_BOARD, MOVED, POINT_MADE, TO_MOVE, TO_ROLL, WELCOME, to_roll_picture};
+use super::lines::{FIRST_BOARD, MOVED, POINT_MADE, SETTINGS, TO_MOVE, TO_ROLL, WELCOME, to_roll_picture};
 use super::seats::{Cue, Scene, assert_scenes, assert_wanted, colour_settings, plain_settings, shown};
 use crate::fibs_wording::environment::Settings;
 
@@ -53,6 +53,170 @@ static LOST: [Scene; 3] = [
 #[test]
 fn what_was_said_before_a_loss_is_forgotten() {
     assert_scenes(bell_settings(), &LOST);
+}
+
+/// A board of a game that the user watches.
+const BOB_AND_EVE: &[u8] =
+    b"board:bob:eve:3:0:1:0:-2:0:0:0:0:5:0:3:0:0:0:-5:5:0:0:0:-3:0:-5:0:0:0:0:2:0:1:0:0:0:0:1:1:1:0:1:-1:0:25:0:0:0:0:0:0:0:0\r\n";
+
+/// What the server says of a player who is here.
+const BOB_LOGS_IN: &[u8] = b"7 bob bob logs in.\r\n";
+
+/// What was known of another connection: a game that was watched, who invited the user, that the opponent is here, that
+/// the server refuses a double, that a board was asked for.
+static OTHER_CONNECTIONS: [Scene; 5] = [
+    (
+        &[Cue::Hears(BOB_AND_EVE), Cue::Loses, Cue::Opens, Cue::Types(b"words")],
+        "connected to fibs.com:4321\nNo board on which you play was shown.\n",
+    ),
+    (
+        &[
+            Cue::Loses,
+            Cue::Opens,
+            Cue::Hears(b"eve wants to play a 3 point match with you.\r\n"),
+            Cue::Loses,
+            Cue::Opens,
+            Cue::Hears(b"Type 'join eve' to accept.\r\n"),
+        ],
+        "connected to fibs.com:4321\nType 'join eve' to accept.\n",
+    ),
+    (
+        &[
+            Cue::Hears(BOB_LOGS_IN),
+            Cue::Loses,
+            Cue::Opens,
+            Cue::Hears(WELCOME),
+            Cue::Hears(SETTINGS),
+            Cue::Hears(b"5 carol - - 1 0 1701.00 0 0 1 host - -\r\n"),
+            Cue::Hears(b"6\r\n"),
+            Cue::Hears(b"** You're not playing.\r\n"),
+            Cue::Rests,
+        ],
+        "** You're not playing.\n",
+    ),
+    (
+        &[
+            Cue::Types(b"double"),
+            Cue::Hears(b"** You can't double.\r\n"),
+            Cue::Loses,
+            Cue::Opens,
+            Cue::Hears(WELCOME),
+            Cue::Hears(SETTINGS),
+            Cue::Hears(TO_ROLL),
+            Cue::Rests,
+        ],
+        "   O You\nYour turn: roll, or double.\n",
+    ),
+    (
+        &[
+            Cue::Types(b"resign n"),
+            Cue::Hears(b"You want to resign. bob will win 1 point.\r\n"),
+            Cue::Types(b"board"),
+            Cue::Loses,
+            Cue::Opens,
+            Cue::Hears(WELCOME),
+            Cue::Hears(SETTINGS),
+            Cue::Hears(TO_ROLL),
+            Cue::Rests,
+        ],
+        "   O You\n",
+    ),
+];
+
+/// What was known of another opponent, or of a match or an invitation that is over: a score, that he is here, that a
+/// match is saved, who invites.
+static OTHER_OPPONENTS: [Scene; 4] = [
+    (
+        &[
+            Cue::Hears(b"** You are now playing a 3 point match with eve.\r\n"),
+            Cue::Hears(b"** Player eve has left the game. The game was saved.\r\n"),
+            Cue::Hears(b"7 eve eve logs in.\r\n"),
+        ],
+        "eve logs in.\n",
+    ),
+    (
+        &[
+            Cue::Hears(BOB_LOGS_IN),
+            Cue::Hears(b"5 dave - - 1 0 900.05 0 0 1 host - -\r\n"),
+            Cue::Hears(b"6\r\n"),
+            Cue::Hears(WITH_CAROL),
+            Cue::Hears(b"** Player carol has left the game. The game was saved.\r\n"),
+            Cue::Rests,
+        ],
+        "** Player carol has left the game. The game was saved.\n",
+    ),
+    (
+        &[
+            Cue::Hears(b"** Player bob has left the game. The game was saved.\r\n"),
+            Cue::Hears(b"bob has joined you. Your running match was loaded.\r\n"),
+            Cue::Hears(BOB_LOGS_IN),
+        ],
+        "bob logs in.\n",
+    ),
+    (
+        &[
+            Cue::Hears(b"** Player bob has left the game. The game was saved.\r\n"),
+            Cue::Hears(b"eve wants to play a 3 point match with you.\r\n"),
+            Cue::Hears(b"8 eve eve drops connection.\r\n"),
+            Cue::Types(b"help"),
+            Cue::Rests,
+        ],
+        "about a word.\nYour match may be saved: invite bob,\nor join bob, if you are invited.\n",
+    ),
+];
+
+#[test]
+fn what_is_of_another_connection_or_opponent_is_forgotten() {
+    assert_scenes(plain_settings(), &OTHER_CONNECTIONS);
+    assert_scenes(plain_settings(), &OTHER_OPPONENTS);
+}
+
+/// A line that is sent as it is: an answer ends the offer, a decision is what waits, after any the row is said again.
+static PASSED: [Scene; 3] = [
+    (
+        &[Cue::Hears(MOVED), Cue::Hears(RESIGNS), Cue::Rests, Cue::Types(b"send accept"), Cue::Rests],
+        "send reject.\nsent as it is: accept\n",
+    ),
+    (
+        &[
+            Cue::Types(b"roll"),
+            Cue::Hears(b"** You can't roll now.\r\n"),
+            Cue::Types(b"board"),
+            Cue::Hears(TO_ROLL),
+            Cue::Rests,
+            Cue::Types(b"send roll"),
+            Cue::Rests,
+        ],
+        "The board is as it was: send roll, or send double\nsent as it is: roll\n",
+    ),
+    (
+        &[
+            Cue::Types(b"roll"),
+            Cue::Hears(b"** You can't roll now.\r\n"),
+            Cue::Types(b"board"),
+            Cue::Hears(TO_ROLL),
+            Cue::Rests,
+            Cue::Types(b"pip"),
+            Cue::Rests,
+        ],
+        "sent as it is: pip\nThe board is as it was: send roll, or send double\n",
+    ),
+];
+
+#[test]
+fn a_line_that_is_sent_as_it_is_is_noted() {
+    assert_scenes(plain_settings(), &PASSED);
+}
+
+/// A text that comes twice is shown twice.
+static TWICE: [Scene; 1] = [(
+    &[Cue::Hears(b"ann has 167 pips.\r\n"), Cue::Hears(b"ann has 167 pips.\r\n")],
+    "ann has 167 pips.\nann has 167 pips.\n",
+)];
+
+#[test]
+fn a_text_is_shown_each_time() {
+    assert_scenes(plain_settings(), &TWICE);
 }
 
 /// A board is drawn again, and nobody was waited for.
@@ -164,6 +328,23 @@ static MOVES: [Scene; 1] = [(
 #[test]
 fn the_rule_is_that_of_the_last_move() {
     assert_scenes(bell_settings(), &MOVES);
+}
+
+/// `go` sends the move that was shown last.
+static TRIED: [Scene; 1] = [(
+    &[
+        Cue::Types(b"roll"),
+        Cue::Hears(TO_MOVE),
+        Cue::Types(b"try 24-22 24-18"),
+        Cue::Types(b"try 13-11 13-7"),
+        Cue::Types(b"go"),
+    ],
+    "Not sent yet: go sends move 13-11 13-7\nsent move 13-11 13-7\n",
+)];
+
+#[test]
+fn the_move_that_was_tried_last_is_sent() {
+    assert_scenes(plain_settings(), &TRIED);
 }
 
 /// A list that was asked for is counted, each anew; who changes alone is in a row, and what else changes is listed.
