@@ -204,9 +204,10 @@ def pictures_stand_straight(server):
     player = in_play(server)
     player.type('invite eve 3')
     player.is_shown('as in: move')
-    for _ in range(3):
+    for count in 2, 3, 4:
         player.type('board')
-        player.shown(1)
+        player.is_shown('-+   O You', count)
+        player.shown(0.5)
     rows = [row for row in drawn(player) if '+13-14-15' in row]
     same('pictures were drawn', len(rows) > 3, True)
     same('rows that do not begin where the others do', [row for row in rows if not row.startswith(' +13-14-15')], [])
