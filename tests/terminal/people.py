@@ -87,6 +87,18 @@ class Reader(Terminal):
             if found == kind and len(named) >= len(wanted):
                 return named
 
+    def answered_and_advised(self, text, kind, wanted, seconds=PATIENCE):
+        """Reads on to a line that has a text, and to a row of this kind that names a line that begins so, whichever
+        comes first: that line."""
+        end, named, is_answered = time.monotonic() + seconds, None, False
+        while not is_answered or named is None:
+            line = self.next_line(max(0.01, end - time.monotonic()))
+            found, lines = read(line)
+            is_answered |= text in line
+            if found == kind:
+                named = next((it for it in lines if it.startswith(wanted)), named)
+        return named
+
     def rows_of(self, kinds, seconds):
         """The rows of these kinds that are read within so many seconds."""
         found, end = [], time.monotonic() + seconds

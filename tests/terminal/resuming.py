@@ -141,8 +141,9 @@ def a_roll_crosses_his_leaving(table):
     ann_is_to_roll(table)
     table.bob.send('leave')
     table.ann.type('roll')
-    table.ann.reads("** You're not playing.")
-    takes_up(table)
+    # on a busy machine the row that says how to go on comes before this answer
+    table.ann.type(table.ann.answered_and_advised("** You're not playing.", 'gone', 'invite bob'))
+    bob_joins(table)
     table.ann.reads(' +13-14-15-16-17-18-+---+19-20-21-22-23-24-+')
     ann_rolls(table, 'go on', 'send roll')
 
@@ -153,8 +154,9 @@ def a_move_crosses_his_leaving(table):
     move = table.ann.hint()
     table.bob.send('leave')
     table.ann.type(move)
-    table.ann.reads("** You're not playing.")
-    takes_up(table)
+    # on a busy machine the row that says how to go on comes before this answer
+    table.ann.type(table.ann.answered_and_advised("** You're not playing.", 'gone', 'invite bob'))
+    bob_joins(table)
     moves_as(table, 'go on', 'send ' + move)
 
 
@@ -190,8 +192,9 @@ def a_roll_crosses_his_leaving_and_no_board_comes(table):
     ann_is_to_roll(table)
     table.bob.send('leave')
     table.ann.type('roll')
-    table.ann.reads("** You're not playing.")
-    takes_up(table)
+    # on a busy machine the row that says how to go on comes before this answer
+    table.ann.type(table.ann.answered_and_advised("** You're not playing.", 'gone', 'invite bob'))
+    bob_joins(table)
     table.ann.types_what('board', 'board')
     ann_rolls(table, 'go on', 'send roll')
 
