@@ -34,7 +34,7 @@ pub enum After<'a> {
 }
 
 /// A turn, and its plays: see the head of `turns.txt`.
-pub struct Turn<'a> {
+pub struct WorkedTurn<'a> {
     pub name: &'a str,
     pub own: Checkers,
     pub other: Checkers,
@@ -169,15 +169,15 @@ pub fn rows(text: &str) -> Result<Vec<Row<'_>>, String> {
 }
 
 /// The turn of a row of `turns.txt`, if it is one.
-fn turn(line: &str) -> Option<Turn<'_>> {
+fn turn(line: &str) -> Option<WorkedTurn<'_>> {
     let columns: Vec<&str> = line.split('|').map(str::trim).collect();
     let [name, own, other, dice, listed, refused] = columns.as_slice() else { return None };
     let dice: (u8, u8) = pair(dice, ' ')?;
     let (own, other) = (checkers(own)?, checkers(other)?);
-    Some(Turn { name, own, other, dice: [dice.0, dice.1], plays: plays(listed)?, refused: plays(refused)? })
+    Some(WorkedTurn { name, own, other, dice: [dice.0, dice.1], plays: plays(listed)?, refused: plays(refused)? })
 }
 
 /// The turns of `turns.txt`, or where it is wrong.
-pub fn turns(text: &str) -> Result<Vec<Turn<'_>>, String> {
+pub fn turns(text: &str) -> Result<Vec<WorkedTurn<'_>>, String> {
     lines(text).map(|(at, line)| turn(line).ok_or(format!("turns.txt:{at}: this is no turn: {line}"))).collect()
 }
