@@ -144,6 +144,12 @@ def room_of(options):
     return room
 
 
+def reason_of(error):
+    """Why a port can't be had, in the words of the system."""
+    number = getattr(error, 'errno', None)
+    return os.strerror(number).lower() if number and number > 0 else str(error)
+
+
 async def serve(options):
     """Serves until it is interrupted. The first line that it prints is the port."""
     loop = asyncio.get_running_loop()
@@ -155,7 +161,10 @@ async def serve(options):
         count += 1
         return Link(room, manners, count)
 
-    server = await loop.create_server(link, options.host, options.port)
+    try:
+        server = await loop.create_server(link, options.host, options.port)
+    except (OSError, OverflowError) as error:
+        sys.exit('fibs_server: it can\'t listen on %s:%d: %s' % (options.host, options.port, reason_of(error)))
     print(server.sockets[0].getsockname()[1], flush=True)
     over = asyncio.Event()
     for number in (signal.SIGINT, signal.SIGTERM):

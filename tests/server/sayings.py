@@ -1,8 +1,10 @@
 """What the server says to each command, and what it does by its options: tables of lines typed and lines that come."""
 
 import re
+import subprocess
+import sys
 
-from clients import Client, Served, reference, same
+from clients import PATIENCE, ROOT, Client, Served, reference, same
 
 QUIET = ['--no-changes']
 
@@ -473,3 +475,13 @@ def plays(client):
     board = reference.Board(reference.read_board(line.encode()))
     steps = sorted(reference.legal_plays(board.position(), board.dice()))[0]
     client.send(reference.print_decision(steps, board).decode())
+
+
+@served()
+def a_port_that_is_in_use(server):
+    """One row says so, and so it does of what is no port."""
+    for port, why in (server.port, 'address already in use'), (65536, 'bind(): port must be 0-65535.'):
+        told = subprocess.run([sys.executable, '-B', str(ROOT / 'examples' / 'fibs_server'), str(port)],
+                              capture_output=True, text=True, timeout=PATIENCE)
+        same('what it says', (told.returncode, told.stdout, told.stderr),
+             (1, '', "fibs_server: it can't listen on 127.0.0.1:%d: %s\n" % (port, why)))
