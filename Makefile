@@ -34,7 +34,7 @@ all: ## proves and builds the program: bin/fibs, with bin/fibs-play beside it
 	@scripts/prove fibs
 	@mkdir -p bin
 	@cmp -s $(BUILT) bin/fibs || install -m 755 $(BUILT) bin/fibs
-	@cmp -s scripts/fibs-play bin/fibs-play || install -m 755 scripts/fibs-play bin/fibs-play
+	@install -m 755 scripts/fibs-play scripts/fibs-mat bin
 
 lib: ## proves and builds the library for C: lib/libfibs.a, lib/libfibs.so and lib/fibs.pc
 	@scripts/tools lib
@@ -114,9 +114,10 @@ install-surface:
 	install -d $(DESTDIR)$(PREFIX)/bin $(DESTDIR)$(SHARE)/man/man1 $(DESTDIR)$(SHARE)/fibs \
 		$(DESTDIR)$(SHARE)/bash-completion/completions $(DESTDIR)$(SHARE)/zsh/site-functions \
 		$(DESTDIR)$(SHARE)/fish/vendor_completions.d
-	install -m 755 scripts/fibs-play $(DESTDIR)$(PREFIX)/bin/fibs-play
+	install -m 755 scripts/fibs-play scripts/fibs-mat $(DESTDIR)$(PREFIX)/bin
 	install -m 644 docs/fibs.1 $(DESTDIR)$(SHARE)/man/man1/fibs.1
 	ln -sf fibs.1 $(DESTDIR)$(SHARE)/man/man1/fibs-play.1
+	ln -sf fibs.1 $(DESTDIR)$(SHARE)/man/man1/fibs-mat.1
 	install -m 644 completions/typed $(DESTDIR)$(SHARE)/fibs/typed
 	install -m 755 scripts/keys.pl $(DESTDIR)$(SHARE)/fibs/keys.pl
 	install -m 644 scripts/inputrc $(DESTDIR)$(SHARE)/fibs/inputrc

@@ -424,8 +424,9 @@ def fibs_play_takes_what_the_settings_say(_program):
 
 def make_installs_them(_program):
     wanted = {
-        'bin/fibs-play': 'scripts/fibs-play', 'share/man/man1/fibs.1': 'docs/fibs.1',
-        'share/man/man1/fibs-play.1': 'docs/fibs.1', 'share/fibs/typed': 'completions/typed',
+        'bin/fibs-play': 'scripts/fibs-play', 'bin/fibs-mat': 'scripts/fibs-mat',
+        **{'share/man/man1/%s.1' % name: 'docs/fibs.1' for name in ('fibs', 'fibs-play', 'fibs-mat')},
+        'share/fibs/typed': 'completions/typed',
         'share/fibs/keys.pl': 'scripts/keys.pl', 'share/fibs/inputrc': 'scripts/inputrc',
         'share/fibs/config': 'examples/config',
         'share/bash-completion/completions/fibs': 'completions/fibs.bash',
@@ -440,7 +441,8 @@ def make_installs_them(_program):
         top = pathlib.Path(room)
         found = {str(path.relative_to(top)): path.read_text() for path in top.rglob('*') if path.is_file()}
         same('what is installed', found, {path: text_of(source) for path, source in wanted.items()})
-        same('fibs-play runs', bool((top / 'bin' / 'fibs-play').stat().st_mode & 0o111), True)
+        for name in 'fibs-play', 'fibs-mat':
+            same('%s runs' % name, bool((top / 'bin' / name).stat().st_mode & 0o111), True)
 
 
 CASES = [

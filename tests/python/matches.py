@@ -128,8 +128,9 @@ class Player:
         return found
 
     def match_file(self):
-        told = subprocess.run([sys.executable, '-B', str(ROOT / 'examples' / 'session_to_mat.py'), str(self.session)],
-                              capture_output=True, text=True, env={**os.environ, 'PYTHONPATH': str(ROOT / 'python')})
+        told = subprocess.run([sys.executable, '-B', str(ROOT / 'scripts' / 'fibs-mat'), '--match', 'last',
+                               str(self.session)], capture_output=True, text=True,
+                              env={**os.environ, 'FIBS': str(ROOT / 'bin' / 'fibs')})
         return told.stdout, told.stderr, told.returncode
 
 

@@ -25,7 +25,7 @@ def action_of(one):
 
 def imported(text):
     """A match file as GNU Backgammon has it: what it says of the match, and its games. The action of a player is his
-    name, what he does, and the position that it leads to, if it leads to one."""
+    name, what he does, and the position that it leads to, if it leads to one. None if a play in it is illegal."""
     with tempfile.TemporaryDirectory() as folder:
         path = pathlib.Path(folder)
         (path / 'match.mat').write_text(text)
@@ -34,7 +34,7 @@ def imported(text):
                               stdin=subprocess.DEVNULL, capture_output=True, text=True, timeout=60,
                               env={**os.environ, 'HOME': folder})
     found = [line for line in told.stdout.splitlines() if line.startswith('MATCH ')]
-    if not found:
+    if not found or 'Invalid move' in told.stdout + told.stderr:
         return None
     match = json.loads(found[0][6:])
     names = {side: match['match-info'][side]['name'] for side in 'XO'}

@@ -86,7 +86,7 @@ def the_types_hold(counts):
     if not mypy:
         counts.leave_out('there is no mypy')
         return
-    programs = ['read_session.py', 'session_to_mat.py', 'gnubg_bot.py']
+    programs = ['read_session.py', '../scripts/fibs-mat', 'gnubg_bot.py']
     for words, folder in [(['--strict', '--config-file', 'pyproject.toml', 'fibs'], 'python'), (programs, 'examples')]:
         told = subprocess.run([mypy, '--cache-dir', '/dev/null', *words], capture_output=True, text=True,
                               cwd=ROOT / folder, env={**os.environ, 'MYPYPATH': str(ROOT / 'python')})

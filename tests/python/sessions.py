@@ -1,8 +1,10 @@
-"""Saved sessions: what examples/read_session.py and examples/session_to_mat.py make of them."""
+"""Saved sessions: what examples/read_session.py and scripts/fibs-mat make of them."""
 
 import os
+import pathlib
 import subprocess
 import sys
+import tempfile
 
 import matchfiles
 from props.package import ROOT
@@ -92,16 +94,22 @@ MATCH = """ 3 point match
 """
 
 
-def run(name, lines, *words):
+def run(counts, path, lines, *words):
     """What a program prints of a session, on both streams, and its status."""
     data = b'\r\n'.join(one.encode('latin-1') for one in lines) + b'\r\n'
-    told = subprocess.run([sys.executable, '-B', str(ROOT / 'examples' / name), *words], input=data,
-                          capture_output=True, env={**os.environ, 'PYTHONPATH': str(ROOT / 'python')}, timeout=60)
+    told = subprocess.run([sys.executable, '-B', str(ROOT / path), *words], input=data, capture_output=True,
+                          env={**os.environ, 'PYTHONPATH': str(ROOT / 'python'),
+                               'FIBS': str(pathlib.Path(counts.program).resolve())}, timeout=60)
     return told.stdout.decode(), told.stderr.decode(), told.returncode
 
 
+def match_of(counts, lines, match='last'):
+    """The match file of the match that is played last in a session, or of another one."""
+    return run(counts, 'scripts/fibs-mat', lines, '--match', match)
+
+
 def played_turns_are_printed(counts):
-    told, _, status = run('read_session.py', session()[:11])
+    told, _, status = run(counts, 'examples/read_session.py', session()[:11])
     counts.same((told.splitlines(), status), (
         ['You play bob: 3 points, 0 to 0', 'You: roll 6 and 3', 'You: move 24-21 21-15', 'bob: roll 5 and 2',
          'bob: move 1-3 12-17'], 0), 'turns')
@@ -110,7 +118,7 @@ def played_turns_are_printed(counts):
 def a_session_becomes_a_match_file(counts):
     for colour in 1, -1:
         for direction in -1, 1:
-            counts.same(run('session_to_mat.py', session(colour=colour, direction=direction)), (MATCH, '', 0),
+            counts.same(match_of(counts, session(colour=colour, direction=direction)), (MATCH, '', 0),
                         'colour %d, direction %d' % (colour, direction))
 
 
@@ -143,13 +151,13 @@ def what_a_lost_connection_hid_is_filled_in(counts):
                 one, '5 bob ann - 1 0 1500 0 0 0 h - -', whole[4].replace(':You:', ':eve:'), 'board:You:x', '** hm')]),
             ('what was sent, as a log has it', [sent for one in whole for sent in (
                 one, '>> roll', '>> move 24-21 21-15', '>> accept', '>> You roll 1 and 1.')])]:
-        counts.same(run('session_to_mat.py', lines), (MATCH, '', 0), 'without %s' % case)
-    told, _, _ = run('session_to_mat.py', whole[:4] + whole[6:7] + whole[10:])
+        counts.same(match_of(counts, lines), (MATCH, '', 0), 'without %s' % case)
+    told, _, _ = match_of(counts, whole[:4] + whole[6:7] + whole[10:])
     counts.same(told, MATCH, 'the own opening is told by the text')
-    told, said, status = run('session_to_mat.py', whole[:4] + whole[10:])
+    told, said, status = match_of(counts, whole[:4] + whole[10:])
     counts.same((told, said, status), (MATCH, '', 0), 'two plays are hidden')
     redoubled = line(OWN2, OTHER1, -1, (3, 1), cube=4)
-    told, said, status = run('session_to_mat.py', whole[:19] + [redoubled])
+    told, said, status = match_of(counts, whole[:19] + [redoubled])
     counts.same((told.splitlines()[6:8], said, status), (
         ['  3) 66: 24/18 15/9 13/7 13/7     Doubles => 4', '  4)  Takes                      '], '', 0),
         'the one who took the cube doubles, and that is hidden')
@@ -157,15 +165,15 @@ def what_a_lost_connection_hid_is_filled_in(counts):
 
 def what_can_not_be_told_is_said(counts):
     whole = session()
-    told, said, status = run('session_to_mat.py', whole[:1] + whole[18:])
+    told, said, status = match_of(counts, whole[:1] + whole[18:])
     counts.check(status == 0 and 'the game is left out' in said, 'a beginning that is missing: %s' % said)
     counts.same(told.splitlines()[2:4], [' Game 1', ' ann : 2                        bob : 0'], 'the second game stays')
     far = line({0: 10, 1: 5}, {0: 10, 2: 5}, 1)
-    told, said, status = run('session_to_mat.py', whole[:7] + [far] + whole[22:])
+    told, said, status = match_of(counts, whole[:7] + [far] + whole[22:])
     counts.check(status == 0 and 'the result is kept' in said, 'a gap: %s' % said)
     counts.same(told.splitlines()[4:6], ['  1) 63: 24/21 21/15             ', '      Wins 2 points'], 'the result')
     for lines in [], [WELCOME], ['hello'], [whole[4].replace(':You:', ':eve:')]:
-        told, said, status = run('session_to_mat.py', lines)
+        told, said, status = match_of(counts, lines)
         counts.same((told, status), ('', 1), 'no match')
         counts.check('0 matches' in said, said)
 
@@ -173,18 +181,29 @@ def what_can_not_be_told_is_said(counts):
 def each_match_of_a_session_can_be_had(counts):
     again = [one.replace(':bob:', ':eve:').replace('bob', 'eve') for one in session()]
     lines = session() + again
-    for words, wanted in [(('--match', '1'), MATCH), (('--match', '2'), MATCH.replace('bob', 'eve')),
-                          ((), MATCH.replace('bob', 'eve'))]:
-        counts.same(run('session_to_mat.py', lines, *words), (wanted, '', 0), 'match %s' % (words,))
-    for number in '3', '0', '-1':
-        counts.same(run('session_to_mat.py', lines, '--match', number)[2], 1, 'there is no match %s' % number)
+    for match, wanted in ('1', MATCH), ('2', MATCH.replace('bob', 'eve')), ('last', MATCH.replace('bob', 'eve')):
+        counts.same(match_of(counts, lines, match), (wanted, '', 0), 'match %s' % match)
+    for match in '3', '0', 'first':
+        counts.same(match_of(counts, lines, match)[2], 1, 'there is no match %s' % match)
+    with tempfile.TemporaryDirectory() as room:
+        log = pathlib.Path(room, 'my game.log')
+        log.write_bytes(b''.join(one.encode('latin-1') + b'\n' for one in lines))
+        for _ in range(2):
+            told = subprocess.run([sys.executable, '-B', str(ROOT / 'scripts' / 'fibs-mat'), str(log)], cwd=room,
+                                  capture_output=True, text=True, timeout=60,
+                                  env={**os.environ, 'FIBS': str(pathlib.Path(counts.program).resolve())})
+            counts.same((told.stdout, told.stderr, told.returncode),
+                        ('my game-1.mat: ann 2, bob 1 of 3, not finished\n'
+                         'my game-2.mat: ann 2, eve 1 of 3, not finished\n', '', 0), 'files are made')
+            counts.same({path.name: path.read_text() for path in pathlib.Path(room).glob('*.mat')},
+                        {'my game-1.mat': MATCH, 'my game-2.mat': MATCH.replace('bob', 'eve')}, 'files')
     # one that is broken off, and goes on when another one was played: then the board is shown once more
     for at in 5, 11, 16, 18, 24, 27, 32:
         shown = [one for one in session()[:at] if one.startswith('board')][-1:]
         lines = session()[:at] + again + shown + session()[at:]
-        counts.same(run('session_to_mat.py', lines), (MATCH, '', 0), 'broken off at line %d' % at)
+        counts.same(match_of(counts, lines), (MATCH, '', 0), 'broken off at line %d' % at)
     # a new match with the same player, after one that was not played to its end
-    told, said, status = run('session_to_mat.py', session()[:12] + session()[1:])
+    told, said, status = match_of(counts, session()[:12] + session()[1:])
     counts.same((told, said, status), (MATCH, '', 0), 'the same player once more')
 
 

@@ -25,6 +25,7 @@ import offers
 import partners
 import pictures
 import play
+import records
 import refusals
 import resized
 import resuming
@@ -49,7 +50,7 @@ def main():
     words = sys.argv[2:]
     beside = (offers.SCENES + resuming.SCENES + refusals.SCENES + hints.SCENES + play.SCENES + logs.SCENES
               + game.SCENES + company.SCENES + partners.SCENES + watching.SCENES + spoken.SCENES + babble.SCENES
-              + anything.SCENES + resized.SCENES + whole.SCENES + logins.SCENES + pictures.SCENES)
+              + anything.SCENES + resized.SCENES + whole.SCENES + logins.SCENES + pictures.SCENES + records.SCENES)
     alone = escapes.SCENES + costs.SCENES
     chosen = [[scene for scene in scenes if not words or any(word in scene.__name__ for word in words)]
               for scenes in (beside, alone)]
