@@ -5,7 +5,11 @@
 .DELETE_ON_ERROR:
 
 PREFIX ?= /usr/local
+# a shell that leaves ~ as it is typed means the same
+override PREFIX := $(patsubst ~/%,$(HOME)/%,$(PREFIX))
 SHARE = $(PREFIX)/share
+# the command rt, which proves. Without it cargo builds the program, and nothing is proved
+KIT := $(shell command -v rt)
 MEGABYTES ?= 50
 ROUNDS ?= 5
 PEER ?= $(if $(shell command -v rustc),bin/plain_show)
@@ -26,24 +30,47 @@ TARGET =
 # the heap of the toolchain's library, over malloc, realloc and free
 KIT_ARCHIVE = $(dir $(shell rt doc))c/liblibc_c.a
 
-.PHONY: all lib test edits try quick definitions fmt dist install install-program install-surface install-lib \
-	install-program-files install-lib-files dist-files bench bench-more clean help $(CRATES)
+.PHONY: all quickly built lib test edits try quick definitions fmt dist install install-program install-surface \
+	install-lib install-program-files install-lib-files uninstall dist-files bench bench-more clean help $(CRATES)
 
-all: ## proves and builds the program: bin/fibs, with bin/fibs-play beside it
+# what stands beside the program
+BESIDE := bin/fibs-play bin/fibs-mat
+
+all: ## proves and builds the program: bin/fibs, with bin/fibs-play beside it; without the command rt as `make quickly`
+ifeq ($(KIT),)
+	@$(MAKE) --no-print-directory quickly
+else
 	@scripts/tools build
 	@scripts/prove fibs
 	@mkdir -p bin
 	@cmp -s $(BUILT) bin/fibs || install -m 755 $(BUILT) bin/fibs
-	@install -m 755 scripts/fibs-play scripts/fibs-mat bin
+	@$(MAKE) --no-print-directory -s $(BESIDE)
+endif
+
+quickly: ## builds the program by cargo, and proves nothing: bin/fibs, with bin/fibs-play beside it
+	@scripts/quickly
+	@$(MAKE) --no-print-directory -s $(BESIDE)
+
+$(BESIDE): bin/%: scripts/%
+	@mkdir -p bin
+	install -m 755 $< $@
+
+# the program as it was built, proved or not; if there is none it is built
+built:
+	@[ -x bin/fibs ] || $(MAKE) --no-print-directory all
 
 lib: ## proves and builds the library for C: lib/libfibs.a, lib/libfibs.so and lib/fibs.pc
 	@scripts/tools lib
 	@scripts/prove fibs_c
 	@$(MAKE) --no-print-directory lib/libfibs.a lib/libfibs.so lib/fibs.pc python/fibs/libfibs.so
 
-test: ## passes all tests: the proofs, the edits that must fail, the tests of what was built
+test: ## passes all tests: the proofs, the edits that must fail, the tests of what was built; without rt what needs none
+ifeq ($(KIT),)
+	@tests/unproved
+else
 	@scripts/tools test
 	@tests/run
+endif
 
 edits: ## tries the edits that the prover must refuse, over what make and make lib built
 	@tests/edits
@@ -101,32 +128,47 @@ python/fibs/libfibs.so: lib/libfibs.so
 lib/fibs.pc: lib/fibs.pc.in Makefile
 	sed -e 's|@PREFIX@|$(PREFIX)|; s|@VERSION@|$(VERSION)|' $< > $@
 
-install: install-program install-lib ## copies the program and the library for C to $(PREFIX)
+install: install-program ## copies what was built to $(PREFIX): the program, proved or not; the library for C, if there is one
+	@[ ! -f lib/libfibs.so ] || $(MAKE) --no-print-directory -s install-lib-files
 
-install-program: all install-program-files ## the program alone, with fibs-play, its page and the completions
+install-program: built install-program-files ## the program alone, with fibs-play, its page and the completions
+	@echo "$(DESTDIR)$(PREFIX)/bin: $$(bin/fibs --version)"
+	@case :$$PATH: in \
+		*:$(PREFIX)/bin:*) ;; \
+		*) echo 'it is not in your PATH: type $(PREFIX)/bin/fibs-play, or first PATH=$(PREFIX)/bin:$$PATH' ;; \
+	esac
 
 # the program as it is
 install-program-files: install-surface
-	install -m 755 $(PROGRAM) $(DESTDIR)$(PREFIX)/bin/fibs
+	@install -m 755 $(PROGRAM) $(DESTDIR)$(PREFIX)/bin/fibs
 
 # what is built of nothing
 install-surface:
-	install -d $(DESTDIR)$(PREFIX)/bin $(DESTDIR)$(SHARE)/man/man1 $(DESTDIR)$(SHARE)/fibs \
+	@install -d $(DESTDIR)$(PREFIX)/bin $(DESTDIR)$(SHARE)/man/man1 $(DESTDIR)$(SHARE)/fibs \
 		$(DESTDIR)$(SHARE)/bash-completion/completions $(DESTDIR)$(SHARE)/zsh/site-functions \
 		$(DESTDIR)$(SHARE)/fish/vendor_completions.d
-	install -m 755 scripts/fibs-play scripts/fibs-mat $(DESTDIR)$(PREFIX)/bin
-	install -m 644 docs/fibs.1 $(DESTDIR)$(SHARE)/man/man1/fibs.1
-	ln -sf fibs.1 $(DESTDIR)$(SHARE)/man/man1/fibs-play.1
-	ln -sf fibs.1 $(DESTDIR)$(SHARE)/man/man1/fibs-mat.1
-	install -m 644 completions/typed $(DESTDIR)$(SHARE)/fibs/typed
-	install -m 755 scripts/keys.pl $(DESTDIR)$(SHARE)/fibs/keys.pl
-	install -m 644 scripts/inputrc $(DESTDIR)$(SHARE)/fibs/inputrc
-	install -m 644 examples/config $(DESTDIR)$(SHARE)/fibs/config
-	install -m 644 completions/fibs.bash $(DESTDIR)$(SHARE)/bash-completion/completions/fibs
-	ln -sf fibs $(DESTDIR)$(SHARE)/bash-completion/completions/fibs-play
-	install -m 644 completions/_fibs $(DESTDIR)$(SHARE)/zsh/site-functions/_fibs
-	install -m 644 completions/fibs.fish $(DESTDIR)$(SHARE)/fish/vendor_completions.d/fibs.fish
-	ln -sf fibs.fish $(DESTDIR)$(SHARE)/fish/vendor_completions.d/fibs-play.fish
+	@install -m 755 scripts/fibs-play scripts/fibs-mat $(DESTDIR)$(PREFIX)/bin
+	@install -m 644 docs/fibs.1 $(DESTDIR)$(SHARE)/man/man1/fibs.1
+	@ln -sf fibs.1 $(DESTDIR)$(SHARE)/man/man1/fibs-play.1
+	@ln -sf fibs.1 $(DESTDIR)$(SHARE)/man/man1/fibs-mat.1
+	@install -m 644 completions/typed $(DESTDIR)$(SHARE)/fibs/typed
+	@install -m 755 scripts/keys.pl $(DESTDIR)$(SHARE)/fibs/keys.pl
+	@install -m 644 scripts/inputrc $(DESTDIR)$(SHARE)/fibs/inputrc
+	@install -m 644 examples/config $(DESTDIR)$(SHARE)/fibs/config
+	@install -m 644 completions/fibs.bash $(DESTDIR)$(SHARE)/bash-completion/completions/fibs
+	@ln -sf fibs $(DESTDIR)$(SHARE)/bash-completion/completions/fibs-play
+	@install -m 644 completions/_fibs $(DESTDIR)$(SHARE)/zsh/site-functions/_fibs
+	@install -m 644 completions/fibs.fish $(DESTDIR)$(SHARE)/fish/vendor_completions.d/fibs.fish
+	@ln -sf fibs.fish $(DESTDIR)$(SHARE)/fish/vendor_completions.d/fibs-play.fish
+
+# all that the rules above put there, and the folders that are of this alone
+INSTALLED = bin/fibs bin/fibs-play bin/fibs-mat share/man/man1/fibs.1 share/man/man1/fibs-play.1 \
+	share/man/man1/fibs-mat.1 share/fibs/typed share/fibs/keys.pl share/fibs/inputrc share/fibs/config share/bash-completion/completions/fibs \
+	share/bash-completion/completions/fibs-play share/zsh/site-functions/_fibs \
+	share/fish/vendor_completions.d/fibs.fish share/fish/vendor_completions.d/fibs-play.fish \
+	include/fibs.h lib/libfibs.a lib/libfibs.so lib/$(SONAME) lib/pkgconfig/fibs.pc
+uninstall: ## removes from $(PREFIX) what `make install` has put there
+	@cd $(DESTDIR)$(PREFIX)/ && rm -f $(INSTALLED) && rm -rf share/fibs share/doc/fibs lib/cmake/fibs
 
 install-lib: lib install-lib-files ## the library for C alone, with its header
 
