@@ -122,7 +122,7 @@ def header():
 
 
 # Statuses of refusals and faults, by the numbers that the crates give them.
-FAMILIES = {'fibs_session/src/histories/refusal.rt': ('Refusal', 0), 'fibs_commands/src/plain.rt': ('PlainFault', 100),
+FAMILIES = {'fibs_game/src/refusal.rt': ('Refusal', 0), 'fibs_commands/src/plain.rt': ('PlainFault', 100),
             'fibs_position/src/position_fault.rt': ('PositionFault', 200), 'fibs_fields/src/fault.rt': ('Fault', 300),
             'fibs_messages/src/directory/fault.rt': ('DirectoryFault', 400)}
 

@@ -13,7 +13,7 @@ pub const CRATES: &[(&str, &[&str])] = &[
     (
         "",
         &[
-            "fibs_lines", "fibs_fields", "fibs_messages", "fibs_rules", "fibs_position", "fibs_commands",
+            "fibs_lines", "fibs_fields", "fibs_messages", "fibs_rules", "fibs_position", "fibs_commands", "fibs_game",
             "fibs_session", "fibs_engine", "fibs_show",
         ],
     ),

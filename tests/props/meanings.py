@@ -127,7 +127,7 @@ EVENTS = [
 
 # Where the code has each of them: the file, the enum.
 ENUMS = [
-    ('fibs_session/src/histories/refusal.rt', 'Refusal', REFUSALS),
+    ('fibs_game/src/refusal.rt', 'Refusal', REFUSALS),
     ('fibs_commands/src/plain.rt', 'PlainFault', FAULTS),
     ('fibs_position/src/position_fault.rt', 'PositionFault', POSITIONS),
     ('fibs_fields/src/fault.rt', 'Fault', FIELDS),

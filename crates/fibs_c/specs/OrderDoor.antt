@@ -2,7 +2,7 @@
 use Rattle.std.specs.Prelude.{◌≡◌, ◌≢◌, ℕ, ◌≤◌, Option, None, Some}
 use Rattle.fibs_session.specs.Calls.Standing.{ClientValue, StandsAfter}
 use Rattle.fibs_session.specs.History.Machine.{Talk, InputValue, order_refusal, withdraw_refusal, ordered_now}
-use Rattle.fibs_session.specs.declared.histories.refusal.Refusal.{Refusal}
+use Rattle.fibs_game.specs.declared.refusal.Refusal.{Refusal}
 use Rattle.fibs_c.specs.ClientDoor.{DoesUnsaid}
 use Rattle.fibs_c.specs.Records.Statuses.{refusal_status}
 use Rattle.fibs_c.specs.Records.Texts.{flag_of}

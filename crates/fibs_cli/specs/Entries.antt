@@ -1,7 +1,7 @@
 -- The object of each entry of the log (the project's own format).
 use Rattle.std.specs.Prelude.{◌≡◌, ◌++◌, ℕ, List, [], ◌∷◌, codes, Option, Some, None}
 use Rattle.fibs_fields.specs.Board.{BoardFields, spelling}
-use Rattle.fibs_session.specs.declared.histories.refusal.Refusal.{Refusal}
+use Rattle.fibs_game.specs.declared.refusal.Refusal.{Refusal}
 use Rattle.fibs_messages.specs.Line.{board_line}
 use Rattle.fibs_session.specs.History.Asked.{asked_text}
 use Rattle.fibs_session.specs.History.Log.{Entry, Opened, LoggedIn, Welcomed, Informed, Shown, Clicked, Sent, Took, Undone, Lost, Ordered, Withdrawn}

@@ -8,7 +8,7 @@ use Rattle.fibs_messages.specs.Message.{MessageValue}
 use Rattle.fibs_messages.specs.Line.{ReadingValue, numbered_line, board_line, text_line, malformed_line}
 use Rattle.fibs_messages.specs.Directory.Faults.{directory_fault_number, directory_fault_name}
 use Rattle.fibs_messages.specs.declared.directory.fault.DirectoryFault.{DirectoryFault}
-use Rattle.fibs_session.specs.declared.histories.refusal.Refusal.{Refusal}
+use Rattle.fibs_game.specs.declared.refusal.Refusal.{Refusal}
 use Rattle.fibs_session.specs.declared.histories.refusal.PlainRefusal.{PlainRefusal}
 use Rattle.fibs_session.specs.declared.histories.refusal.PlainRefusal.TheVariants as P
 use Rattle.fibs_session.specs.History.Refusals.{refusal_number, refusal_name, plain_refusal_number, plain_refusal_name}

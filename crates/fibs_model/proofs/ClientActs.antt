@@ -7,11 +7,9 @@ use Rattle.fibs_fields.specs.Board.{BoardFields as Board}
 use Rattle.fibs_messages.specs.Line.{ReadingValue, numbered_line, board_line, text_line, malformed_line}
 use Rattle.fibs_commands.specs.PlainCommands.{PlainValue, plain_of}
 use Rattle.fibs_position.specs.DecisionValue.{DecisionValue as Decision}
-use Rattle.fibs_position.specs.GamePart.{same_game}
 use Rattle.fibs_position.specs.GoodBoard.{good as is_good}
-use Rattle.fibs_session.specs.declared.histories.refusal.Refusal.{Refusal}
+use Rattle.fibs_game.specs.declared.refusal.Refusal.{Refusal}
 use Rattle.fibs_session.specs.declared.histories.refusal.PlainRefusal.{PlainRefusal}
-use Rattle.fibs_session.specs.History.Allows.{allows}
 use Rattle.fibs_session.specs.History.Hearing.{Heard, heard, nothing_heard, flags_of, line_reading, shown_entries, shows_board}
 use Rattle.fibs_session.specs.History.Log.{Entry, Welcomed, Informed, Shown, Clicked, Sent, Took, Undone, Ordered, Withdrawn}
 use Rattle.fibs_session.specs.History.Machine.{gained, on_wire, wire_of, plain_refusal, order_refusal, withdraw_refusal}
@@ -22,6 +20,7 @@ use Rattle.fibs_model.specs.Headline.{AllAtMost}
 use Rattle.fibs_model.specs.Server.{command}
 use Rattle.fibs_model.specs.Wires.{Link, delivered, more_asked}
 use Rattle.fibs_model.specs.World.{World, after, noted, linked, asks, hears, hears_all, sends_out, clicks, sends_plain, notes_unless, talk_of}
+use Rattle.fibs_session.proofs.History.Joins.{message_heard}
 use Rattle.fibs_session.proofs.History.Lists.{other_number}
 use Rattle.fibs_session.proofs.History.Past.{open_append}
 use Rattle.fibs_model.proofs.joint.Sending.{if_fact}
@@ -104,11 +103,12 @@ clients_heard c log (board_line b) = go (is_good b)
     go true = clients_shown c b (is_due c (log ++ Shown c b ∷ []) b)
     go false = clients_none c
 clients_heard c log (numbered_line m) =
-    if_fact (λ (h : Heard). Clients c [] h.entries) (nat_eq m.number 1) _ _
+    subst (λ (h : Heard). Clients c [] h.entries) (sym (message_heard c log m))
+    (if_fact (λ (h : Heard). Clients c [] h.entries) (nat_eq m.number 1) _ _
     (λ z. no_board c (Welcomed c ∷ []) (λ o. refl) tt (λ n le. (le, tt)) (λ d. refl))
     (λ z. if_fact (λ (h : Heard). Clients c [] h.entries) (nat_eq m.number 2) _ _
     (λ z. no_board c (Informed c (flags_of m) ∷ []) (λ o. refl) tt (λ n le. (le, tt)) (λ d. refl))
-    (λ z. clients_none c))
+    (λ z. clients_none c)))
 clients_heard c log (text_line t) = clients_none c
 clients_heard c log (malformed_line n k f) = clients_none c
 
@@ -278,7 +278,7 @@ given w e = w
 -- what the client does at it
 pub does : (login : List ℕ) (w : World) (e : Event) → IsClients e
     → Does (boards (lines_at w e)) (given w e) (after login w e)
-does login w (Click d) h = does_clicks w d (answer same_game allows w.log d)
+does login w (Click d) h = does_clicks w d (answer w.log d)
 does login w (Plain p) h = does_plain w p (plain_refusal (talk_of login w) p)
 does login w (Deliver n) h = does_hears_all (given w (Deliver n)) (open_now w.log) (lines_at w (Deliver n)) refl
 does login w Order h =

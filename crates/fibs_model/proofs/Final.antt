@@ -3,7 +3,7 @@ use Rattle.std.proofs.Common.{◌≡◌, ℕ, ◌+◌, ◌<◌, ◌≤◌, Bool,
 use Rattle.std.proofs.lemmas.Bool.Decides.{eqb_tells, nat_tests}
 use Rattle.fibs_fields.specs.Board.{BoardFields as Board, spelling}
 use Rattle.fibs_position.specs.DecisionValue.{DecisionValue as Decision}
-use Rattle.fibs_session.specs.declared.histories.refusal.Refusal.{Refusal}
+use Rattle.fibs_game.specs.declared.refusal.Refusal.{Refusal}
 use Rattle.fibs_session.specs.History.Log.{Entry, Opened, LoggedIn, Welcomed, Informed, Shown, Took, Lost, Ordered, Withdrawn}
 use Rattle.fibs_session.specs.History.Orders.{is_due}
 use Rattle.fibs_session.specs.History.Words.{Ask, is_empty, open_now, shown, sent, took, unconfirmed, answer}
@@ -27,6 +27,7 @@ use Rattle.fibs_lines.specs.Lines.{ReadLine as Line}
 use Rattle.fibs_model.proofs.wires.Ways.{OnWay, way_serve, way_some, way_served}
 use Rattle.fibs_model.proofs.wires.Boards.{waiting, boards, gained_none}
 use Rattle.fibs_model.proofs.joint.Joint.{log_of, Live, Held, Current, Joint, current}
+use Rattle.fibs_session.proofs.History.Joins.{message_heard}
 use Rattle.fibs_session.proofs.History.Lists.{to_list}
 use Rattle.fibs_model.proofs.joint.Sending.{if_fact, same_test}
 use Rattle.fibs_session.proofs.History.Words.{yes}
@@ -41,7 +42,6 @@ use Rattle.fibs_model.proofs.Projection.{talk_is_projected}
 use Rattle.fibs_model.proofs.log.Told.{Told, AllAllowed, AllPass, IsPlain, told_plain, told_shown, told_rolled, told_no, told_yes, told_took}
 use Rattle.fibs_commands.specs.PlainCommands.{PlainValue}
 use Rattle.fibs_session.specs.History.Allows.{allows}
-use Rattle.fibs_position.specs.GamePart.{same_game}
 use Rattle.fibs_position.specs.GoodBoard.{good as is_good}
 
 module _ (law : Lawful) where
@@ -70,9 +70,10 @@ module _ (law : Lawful) where
       if_fact (λ z. Tells (does_heard c w z)) (is_good b) _ _
       (λ z. told_shows c w b z here h (is_due c (w.log ++ Shown c b ∷ []) b) refl) (λ z. told_nothing c w h)
   told_hears c w (numbered_line m) here h =
-      if_fact (λ z. Tells (does_heard c w z)) (nat_eq m.number 1) _ _ (λ z. told_plain w.log (Welcomed c) tt h)
+      subst (λ z. Tells (does_heard c w z)) (sym (message_heard c w.log m))
+      (if_fact (λ z. Tells (does_heard c w z)) (nat_eq m.number 1) _ _ (λ z. told_plain w.log (Welcomed c) tt h)
       (λ z. if_fact (λ z. Tells (does_heard c w z)) (nat_eq m.number 2) _ _
-      (λ z. told_plain w.log (Informed c (flags_of m)) tt h) (λ z. told_nothing c w h))
+      (λ z. told_plain w.log (Informed c (flags_of m)) tt h) (λ z. told_nothing c w h)))
   told_hears c w (text_line t) here h = told_nothing c w h
   told_hears c w (malformed_line n k f) here h = told_nothing c w h
 
@@ -85,13 +86,13 @@ module _ (law : Lawful) where
 
   -- a click adds its answer, and after a yes what is sent
   told_click : (w : World) (d : Decision) → Told w.log
-      → Told (clicks (open_now w.log) w d (answer same_game allows w.log d)).log
-  told_click w d h = go (answer same_game allows w.log d) refl
+      → Told (clicks (open_now w.log) w d (answer w.log d)).log
+  told_click w d h = go (answer w.log d) refl
     where
-      go : (a : Option Refusal) → answer same_game allows w.log d ≡ a → Told (clicks (open_now w.log) w d a).log
+      go : (a : Option Refusal) → answer w.log d ≡ a → Told (clicks (open_now w.log) w d a).log
       go (Some x) e = told_no w.log d x e h
       go None e =
-          let y = yes same_game allows w.log d e in
+          let y = yes w.log d e in
           subst (λ o. Told (sends_out (open_now w.log) w d o).log) (sym y.is_last)
           (told_yes w.log d y.on e y.allowed y.is_last h)
 
@@ -170,7 +171,7 @@ module _ (law : Lawful) where
   told_after login w (Deliver n) j k h =
       told_hears_all (open_now w.log) (given w (Deliver n)) (lines_at w (Deliver n)) refl h
   told_after login w (Lose n) j k h =
-      told_plain w.log (Lost (open_now w.log) (unconfirmed same_game (open_now w.log) w.log)) tt h
+      told_plain w.log (Lost (open_now w.log) (unconfirmed (open_now w.log) w.log)) tt h
   told_after login w (Serve c d1 d2) j k h =
       let s = served w c d1 d2 k in
       subst (λ o. Told (serves c w d1 d2 o).log) (sym s.next)
@@ -203,7 +204,7 @@ module _ (law : Lawful) where
       kept login quiet es (after login w e) a.1 (joint_after law login quiet w e j a.0) (told_after login w e j a.0 t)
 
   -- at rest nothing waits: nothing is on its way in either direction, so no decision is asked or shown
-  rests : (w : World) → Joint [] w → IsAtRest w → unconfirmed same_game w.logged_in w.log ≡ None
+  rests : (w : World) → Joint [] w → IsAtRest w → unconfirmed w.logged_in w.log ≡ None
   rests w j a =
       (let way = subst (λ o. OnWay o cur.p (w.links w.logged_in).asked) t cur.way in
       go cur.p (subst (OnWay true cur.p) (way_served law cur.p (w.links w.logged_in).asked way a.all_served) way)
@@ -226,7 +227,7 @@ module _ (law : Lawful) where
       not_none (x ∷ before) b later h = cc
 
       go : (p : Option Ask) → OnWay true p [] → Live (log_of w w.logged_in) w.board (waiting [] (w.links w.logged_in)) p
-          → unconfirmed same_game w.logged_in w.log ≡ None
+          → unconfirmed w.logged_in w.log ≡ None
       go None o y = elim y [
         | inl f ↦ (rw f.fresh refl)
         | inr d ↦ absurd (not_none d.before d.next d.later (sym none ∙ d.all))

@@ -64,7 +64,7 @@ pub record Lawful : Type 0 where
   pub info_quiet : (m : MessageValue) → AllQuiet (initial_commands m)
   -- a standing order that is due is answered by yes
   pub due_yes : (c : ℕ) (log : List Entry) (b : BoardFields) → is_due c log b ≡ true
-      → answer same_game allows log roll ≡ None
+      → answer log roll ≡ None
   -- a printed board gives one line, which reads as that board
   pub prints_line : (b : BoardFields) → good b ≡ true
       → (l : ReadLine) × (lines_of (on_wire (spelling b)) ≡ l ∷ []) × (line_reading l ≡ board_line b)

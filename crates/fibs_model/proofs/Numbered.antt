@@ -1,7 +1,6 @@
 -- No event notes a connection that never was.
 use Rattle.std.proofs.Common.{◌≡◌, ℕ, ◌+◌, ◌≤◌, List, [], ◌∷◌, Option, Some, None, length, inl, inr, arith}
 use Rattle.fibs_fields.specs.Board.{spelling}
-use Rattle.fibs_position.specs.GamePart.{same_game}
 use Rattle.fibs_session.specs.History.Log as L
 use Rattle.fibs_session.specs.History.Log.{Entry}
 use Rattle.fibs_session.specs.History.Machine.{on_wire}
@@ -52,7 +51,7 @@ counted_after login w Open i k h =
     at_most_both (w.count + 1) w.log (L.Opened (w.count + 1) ∷ [])
     (at_most_more w.count (w.count + 1) w.log (omega arith) h) (omega arith, tt)
 counted_after login w (Lose n) i k h =
-    noted_one w (L.Lost (open_now w.log) (unconfirmed same_game (open_now w.log) w.log)) (here w i) h
+    noted_one w (L.Lost (open_now w.log) (unconfirmed (open_now w.log) w.log)) (here w i) h
 counted_after login w (Serve c d1 d2) i k h =
     serves_line c w d1 d2 (next_line (w.links c).asked) (let s = served w c d1 d2 k in s.known) h
 counted_after login w (Own b) i k h = counted_answers 0 _ w _ (omega arith) (answers_line 0 w b (spelling b)) h

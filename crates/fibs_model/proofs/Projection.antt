@@ -4,16 +4,14 @@ use Rattle.std.proofs.lemmas.List.Concat.{flat_map-append}
 use Rattle.fibs_lines.specs.Lines.{ReadLine}
 use Rattle.fibs_fields.specs.Board.{BoardFields as Board, spelling}
 use Rattle.fibs_position.specs.DecisionValue.{DecisionValue}
-use Rattle.fibs_position.specs.GamePart.{same_game}
 use Rattle.fibs_commands.specs.PlainCommands.{PlainValue, plain_of}
-use Rattle.fibs_session.specs.declared.histories.refusal.Refusal.{Refusal}
+use Rattle.fibs_game.specs.declared.refusal.Refusal.{Refusal}
 use Rattle.fibs_session.specs.declared.histories.refusal.PlainRefusal.{PlainRefusal}
 use Rattle.fibs_session.specs.History.Log.{Entry}
 use Rattle.fibs_session.specs.History.Log as L
 use Rattle.fibs_session.specs.History.Words.{is_empty, open_from, open_now, opened_by, connections, unconfirmed, answer}
 use Rattle.fibs_session.specs.History.Hearing.{Heard, heard, line_reading}
 use Rattle.fibs_session.specs.History.Machine.{Talk, Outcome, step, noted as talk_noted, does, stays, opened, loses, reads, with_bytes, hears_all as talk_hears_all, clicks_by, decides_on, sends_plain as talk_sends_plain, plain_refusal, gained, on_wire, wire_of, notes_if, order_refusal, withdraw_refusal}
-use Rattle.fibs_session.specs.History.Allows.{allows}
 use Rattle.fibs_session.specs.History.Machine as M
 use Rattle.fibs_model.specs.Wires.{Link, delivered, more_asked, taken, cut_off, next_line}
 use Rattle.fibs_model.specs.Server.{command}
@@ -199,14 +197,14 @@ fits_nothing login w i = record { world = i; talk = refl; asked = sym (append-ni
 
 -- the client's machine goes along with a click
 click : (login : List ℕ) (w : World) (d : DecisionValue) → IsWorld w → Both login w (Click d)
-click login w d i = let f = go (answer same_game allows w.log d) refl in
+click login w d i = let f = go (answer w.log d) refl in
     (f.world, record { talk = f.talk; asked = f.asked })
   where
-    go : (a : Option Refusal) → answer same_game allows w.log d ≡ a
+    go : (a : Option Refusal) → answer w.log d ≡ a
         → Fits login w (clicks (open_now w.log) w d a) (clicks_by (talk_of login w) d a)
     go (Some x) e = fits_noted login w (L.Clicked (open_now w.log) d (Some x) ∷ []) i refl refl
     go None e =
-        let y = yes same_game allows w.log d e in
+        let y = yes w.log d e in
         subst (λ o. Fits login w (sends_out (open_now w.log) w d o) (decides_on (talk_of login w) d o)) (sym y.is_last)
         (fits_asks login w (L.Clicked (open_now w.log) d None ∷ L.Sent (open_now w.log) y.on d ∷ []) (open_now w.log)
         (command y.on d ∷ []) i (here w i y.some) refl refl)
@@ -324,7 +322,7 @@ deliver login w n i some = let f =
 lose : (login : List ℕ) (w : World) (k : ℕ) → IsWorld w → 0 < open_now w.log → Both login w (Lose k)
 lose login w k i some =
     let c : ℕ = open_now w.log in
-    let es : List Entry = L.Lost c (unconfirmed same_game c w.log) ∷ [] in
+    let es : List Entry = L.Lost c (unconfirmed c w.log) ∷ [] in
     let l' : Link = cut_off (w.links c) k in
     let w' : World = noted (linked w c l') es in
     let o : c ≡ w.count = here w i some in
@@ -350,7 +348,7 @@ lose login w k i some =
   where
     step_if : Bool → Outcome
     step_if b = if b then does (talk_of login w)
-        (L.Lost (open_now w.log) (unconfirmed same_game (open_now w.log) w.log) ∷ []) [] else stays (talk_of login w)
+        (L.Lost (open_now w.log) (unconfirmed (open_now w.log) w.log) ∷ []) [] else stays (talk_of login w)
 
 -- the client's machine stays silent while the server takes a line
 serve : (login : List ℕ) (w : World) (c d1 d2 : ℕ) (o : Option (List ℕ × List ℕ)) → IsWorld w

@@ -5,7 +5,7 @@ use Rattle.std.proofs.lemmas.Bool.{eqb-true}
 use Rattle.fibs_fields.specs.Board.{BoardFields as Board, spelling}
 use Rattle.fibs_position.specs.BoardEffect.{Effect}
 use Rattle.fibs_position.specs.DecisionValue.{DecisionValue as Decision}
-use Rattle.fibs_position.specs.GamePart.{Differ, same_game}
+use Rattle.fibs_position.specs.GamePart.{Differ}
 use Rattle.fibs_position.specs.Laws.{EffectIsExact, EffectIsGood}
 use Rattle.fibs_session.specs.History.Log.{Entry, Opened, Took, Undone, Lost}
 use Rattle.fibs_session.specs.History.Log as L
@@ -129,7 +129,7 @@ pub adds : (login : List ℕ) (w : World) (e : Event) → IsSilent e → Adds w 
 adds login w Open h = record { board = refl; more = Opened (w.count + 1) ∷ []; log = refl; none = tt }
 adds login w (Lose k) h = record {
   board = refl;
-  more = Lost (open_now w.log) (unconfirmed same_game (open_now w.log) w.log) ∷ [];
+  more = Lost (open_now w.log) (unconfirmed (open_now w.log) w.log) ∷ [];
   log = refl;
   none = tt;
 }

@@ -9,13 +9,12 @@ use Rattle.std.specs.Prelude.{◌≡◌, ℕ, ◌+◌, ◌<◌, ◌≤◌, Bool,
 use Rattle.fibs_fields.specs.Board.{BoardFields}
 use Rattle.fibs_position.specs.Allowed.{IsAllowed}
 use Rattle.fibs_position.specs.DecisionValue.{DecisionValue, roll}
-use Rattle.fibs_position.specs.GamePart.{Differ, same_game}
+use Rattle.fibs_position.specs.GamePart.{Differ}
 use Rattle.fibs_position.specs.GoodBoard.{IsGood}
-use Rattle.fibs_session.specs.declared.histories.refusal.Refusal.{Refusal}
+use Rattle.fibs_game.specs.declared.refusal.Refusal.{Refusal}
 use Rattle.fibs_session.specs.History.Log.{Entry, Opened, LoggedIn, Welcomed, Informed, Shown, Clicked, Sent, Took, Undone, Lost, Ordered, Withdrawn}
 use Rattle.fibs_session.specs.History.Orders.{is_due}
 use Rattle.fibs_session.specs.History.Words.{Ask, last, open_now, shown, sent, took, unconfirmed, answer}
-use Rattle.fibs_session.specs.History.Allows.{allows}
 use Rattle.fibs_model.specs.Wires.{next_line}
 use Rattle.fibs_model.specs.World.{World}
 
@@ -109,7 +108,7 @@ NoneUndone (e ∷ later) = NoneUndone later
 abbrev pub AllAnswered : List Entry → Type 0
 AllAnswered log =
     (before later : List Entry) (c : ℕ) (d : DecisionValue) (a : Option Refusal) → log ≡ before ++ Clicked c d a ∷ later
-    → (c ≡ open_now before) × (a ≡ answer same_game allows before d)
+    → (c ≡ open_now before) × (a ≡ answer before d)
 
 -- the number of an entry's connection
 abbrev pub conn_of : Entry → ℕ
@@ -169,4 +168,4 @@ pub record Headline (w : World) : Type 0 where
   -- each click carries the answer of the log before it;
   pub answered : AllAnswered w.log
   -- and at rest nothing waits.
-  pub at_rest : IsAtRest w → unconfirmed same_game w.logged_in w.log ≡ None
+  pub at_rest : IsAtRest w → unconfirmed w.logged_in w.log ≡ None

@@ -5,15 +5,13 @@ use Rattle.fibs_lines.specs.Lines.{ReadLine}
 use Rattle.fibs_fields.specs.Board.{BoardFields, spelling}
 use Rattle.fibs_messages.specs.Line.{ReadingValue}
 use Rattle.fibs_position.specs.DecisionValue.{DecisionValue}
-use Rattle.fibs_position.specs.GamePart.{same_game}
 use Rattle.fibs_commands.specs.PlainCommands.{PlainValue, plain_of}
-use Rattle.fibs_session.specs.declared.histories.refusal.Refusal.{Refusal}
+use Rattle.fibs_game.specs.declared.refusal.Refusal.{Refusal}
 use Rattle.fibs_session.specs.declared.histories.refusal.PlainRefusal.{PlainRefusal}
 use Rattle.fibs_session.specs.History.Log.{Entry}
 use Rattle.fibs_session.specs.History.Log as L
 use Rattle.fibs_session.specs.History.Words.{is_empty, last, open_now, shown, unconfirmed, answer}
 use Rattle.fibs_session.specs.History.Hearing.{Heard, heard, line_reading}
-use Rattle.fibs_session.specs.History.Allows.{allows}
 use Rattle.fibs_session.specs.History.Machine.{Talk, gained, on_wire, wire_of, plain_refusal, order_refusal, withdraw_refusal}
 use Rattle.fibs_model.specs.Wires.{Link, empty_link, more_coming, delivered, more_asked, taken, cut_off, next_line}
 use Rattle.fibs_model.specs.Server.{ServerValue, TakenLine, Served, Stale, LoggedIn, Took, Undone, Answered, answered, command}
@@ -128,7 +126,7 @@ serves c w d1 d2 (Some p) =
 abbrev pub after : List ℕ → World → Event → World
 after login w Open =
     asks (noted (record w { count = w.count + 1 }) (L.Opened (w.count + 1) ∷ [])) (w.count + 1) (login ∷ [])
-after login w (Click d) = clicks (open_now w.log) w d (answer same_game allows w.log d)
+after login w (Click d) = clicks (open_now w.log) w d (answer w.log d)
 after login w (Plain p) = sends_plain w p (plain_refusal (talk_of login w) p)
 after login w (Deliver n) =
     let c : ℕ = open_now w.log in
@@ -137,7 +135,7 @@ after login w (Deliver n) =
 after login w (Lose k) =
     let c : ℕ = open_now w.log in
     let l : Link = w.links c in
-    noted (linked w c (cut_off l k)) (L.Lost c (unconfirmed same_game c w.log) ∷ [])
+    noted (linked w c (cut_off l k)) (L.Lost c (unconfirmed c w.log) ∷ [])
 after login w (Serve c d1 d2) = serves c w d1 d2 (next_line (w.links c).asked)
 after login w (Own b) = sends (record w { board = b }) (spelling b)
 after login w Repeat = sends w (spelling w.board)

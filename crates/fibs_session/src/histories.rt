@@ -5,5 +5,6 @@ pub mod laws;
 mod reading;
 mod refusal;
 
+pub use fibs_game::Refusal;
 pub use reading::read_line;
-pub use refusal::{PlainRefusal, Refusal};
+pub use refusal::PlainRefusal;

@@ -10,8 +10,8 @@ use Rattle.fibs_position.specs.Names.{disallowed_number, position_fault_number, 
 use Rattle.fibs_position.specs.declared.disallowed.Disallowed.{Disallowed}
 use Rattle.fibs_position.specs.declared.position_fault.PositionFault.{PositionFault}
 use Rattle.fibs_session.specs.History.Refusals.{refusal_number, refusal_name}
-use Rattle.fibs_session.specs.declared.histories.refusal.Refusal.{Refusal}
-use Rattle.fibs_session.specs.declared.histories.refusal.Refusal.TheVariants as R
+use Rattle.fibs_game.specs.declared.refusal.Refusal.{Refusal}
+use Rattle.fibs_game.specs.declared.refusal.Refusal.TheVariants as R
 use Rattle.fibs_session.specs.declared.histories.refusal.PlainRefusal.{PlainRefusal}
 use Rattle.fibs_session.specs.declared.histories.refusal.PlainRefusal.TheVariants as P
 

@@ -5,7 +5,7 @@ use Rattle.fibs_fields.specs.Board.{BoardFields}
 use Rattle.fibs_position.specs.DecisionValue.{DecisionValue}
 use Rattle.arrayvec.specs.ArrayString.{ArrayString as CommandText}
 use Rattle.fibs_commands.specs.PlainCommands.{PlainValue}
-use Rattle.fibs_session.specs.declared.histories.refusal.Refusal.{Refusal}
+use Rattle.fibs_game.specs.declared.refusal.Refusal.{Refusal}
 use Rattle.fibs_session.specs.declared.histories.refusal.PlainRefusal.{PlainRefusal}
 use Rattle.fibs_session.specs.History.Log.{Entry, Clicked, Sent, Ordered, Withdrawn}
 use Rattle.fibs_session.specs.History.Words.{last, open_from, open_now, shown}

@@ -8,7 +8,7 @@ use Rattle.fibs_session.specs.History.Machine.{Talk, Open, step, is_online, on_w
 use Rattle.fibs_session.specs.Calls.Standing.{ClientValue, StandsAfter}
 use Rattle.fibs_connect.specs.declared.turns.Ending.{Ending}
 use Rattle.fibs_connect.specs.Told.{SaidValue, refused_said, unknown_said, opened_said, no_connection_said, passed_said}
-use Rattle.fibs_session.specs.declared.histories.refusal.Refusal.TheVariants.{AlreadyOpen, Offline}
+use Rattle.fibs_game.specs.declared.refusal.Refusal.TheVariants.{AlreadyOpen, Offline}
 use Rattle.fibs_engine.specs.Writing.{Wrote, Broken}
 use Rattle.fibs_connect.specs.Turns.Script.{outside}
 use Rattle.fibs_connect.specs.Turns.Turn.{TurnedBy, Ended, still_given}

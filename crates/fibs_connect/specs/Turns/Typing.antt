@@ -1,6 +1,6 @@
 -- What is done for a line that the user types.
 use Rattle.std.specs.Prelude.{ℕ, List, [], ◌∷◌, Option, Some, None, option_map}
-use Rattle.fibs_session.specs.declared.histories.refusal.Refusal.{Refusal}
+use Rattle.fibs_game.specs.declared.refusal.Refusal.{Refusal}
 use Rattle.fibs_session.specs.History.Machine.{Talk, Outcome, Click, PlainInput, step, stays, answer_now, plain_refusal, Order, Withdraw, order_refusal, withdraw_refusal}
 use Rattle.fibs_connect.specs.Told.{SaidValue, ordered_said, withdrawn_said, refused_said, not_sent_said, unknown_said}
 use Rattle.fibs_session.specs.Typing.{TypedValue, typed_decision, typed_plain, typed_order, typed_withdrawal, typed_none, typed_now}

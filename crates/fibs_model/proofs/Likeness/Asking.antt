@@ -2,13 +2,11 @@
 use Rattle.std.proofs.Common.{◌≡◌, ◌<◌, ℕ, List, [], ◌∷◌, ◌++◌, Option, Some, None, length, refl, sym, ap, subst, ◌∙◌, arith, append-nil, map}
 use Rattle.fibs_fields.specs.Board.{BoardFields}
 use Rattle.fibs_position.specs.DecisionValue.{DecisionValue}
-use Rattle.fibs_position.specs.GamePart.{same_game}
 use Rattle.fibs_commands.specs.PlainCommands.{PlainValue, plain_of}
-use Rattle.fibs_session.specs.declared.histories.refusal.Refusal.{Refusal}
+use Rattle.fibs_game.specs.declared.refusal.Refusal.{Refusal}
 use Rattle.fibs_session.specs.declared.histories.refusal.PlainRefusal.{PlainRefusal}
 use Rattle.fibs_session.specs.History.Log.{Entry, Clicked, Sent, Ordered, Withdrawn}
 use Rattle.fibs_session.specs.History.Words.{open_from, open_now, answer}
-use Rattle.fibs_session.specs.History.Allows.{allows}
 use Rattle.fibs_session.specs.History.Machine.{Talk, answer_now, shown_now, clicks_by, decides_on, plain_refusal, order_refusal, withdraw_refusal, wire_of, sends_plain as talk_sends_plain}
 use Rattle.fibs_session.specs.History.Machine as M
 use Rattle.fibs_session.specs.Calls.ClientLaws.{ServersEntriesAreSilent}
@@ -112,16 +110,16 @@ module _ (law : ServersEntriesAreSilent) (v v' : WorldValue) (send : List (List 
       (sym (answers t s.client))
       (subst (λ x. Asks v w (after login w (Click d)) send (click_entries (open_now w.log) d (answer_now t d) x))
       (sym (boards t s.client))
-      (go (answer same_game allows w.log d) refl (does.hands t s.client)))))
+      (go (answer w.log d) refl (does.hands t s.client)))))
       refl refl does
     where
-      go : (x : Option Refusal) → answer same_game allows w.log d ≡ x → send ≡ (clicks_by (talk_of login w) d x).send
+      go : (x : Option Refusal) → answer w.log d ≡ x → send ≡ (clicks_by (talk_of login w) d x).send
           → Asks v w (clicks (open_now w.log) w d x) send
           (click_entries (open_now w.log) d x (shown_now (talk_of login w)))
       go (Some x) e none = asks_nothing v login w (Clicked (open_now w.log) d (Some x)) send s none
           (open_append 0 w.log (Clicked (open_now w.log) d (Some x) ∷ []))
       go None e one =
-          let y = yes same_game allows w.log d e in
+          let y = yes w.log d e in
           subst (λ o. send ≡ (decides_on (talk_of login w) d o).send
           → Asks v w (sends_out (open_now w.log) w d o) send (click_entries (open_now w.log) d None o)) (sym y.is_last)
           (λ one. asks_one v login w (Clicked (open_now w.log) d None ∷ Sent (open_now w.log) y.on d ∷ []) send

@@ -1,6 +1,5 @@
 -- The open connection ends.
 use Rattle.std.proofs.Common.{◌≡◌, ◌<◌, ℕ, [], ◌∷◌, ◌++◌, Option, length, refl, sym, ap, subst, ◌∙◌, arith}
-use Rattle.fibs_position.specs.GamePart.{same_game}
 use Rattle.fibs_session.specs.History.Log as L
 use Rattle.fibs_session.specs.History.Words.{Ask, open_now, unconfirmed}
 use Rattle.fibs_session.specs.History.Machine.{Talk, unconfirmed_now}
@@ -33,7 +32,7 @@ module _ (law : ServersEntriesAreSilent) (v v' : WorldValue) (k : ℕ) (u : Opti
       let r = may login w s in
       let some : 0 < c = is_open NotOpen c r in
       let known = current_known v login w s in
-      let noted : v.log ++ L.Lost v.current u ∷ [] ≡ w.log ++ L.Lost c (unconfirmed same_game c w.log) ∷ [] =
+      let noted : v.log ++ L.Lost v.current u ∷ [] ≡ w.log ++ L.Lost c (unconfirmed c w.log) ∷ [] =
       ap (λ l. l ++ L.Lost v.current u ∷ []) s.log ∙ ap (λ n. w.log ++ L.Lost n u ∷ []) s.current
       ∙ ap (λ x. w.log ++ L.Lost c x ∷ []) (waited (talk_of login w) s.client) in
       record {
@@ -41,7 +40,7 @@ module _ (law : ServersEntriesAreSilent) (v v' : WorldValue) (k : ℕ) (u : Opti
         logged_in = ap (λ x. x.logged_in) server ∙ s.logged_in;
         count = ap length links ∙ length_set_link v.links v.current _ ∙ s.count;
         log = log ∙ noted;
-        current = current ∙ sym (open_append 0 w.log (L.Lost c (unconfirmed same_game c w.log) ∷ []));
+        current = current ∙ sym (open_append 0 w.log (L.Lost c (unconfirmed c w.log) ∷ []));
         links = λ d. subst (λ n. kept_of ((linked w n (whole.cut_off (w.links n) k)).links d) ≡ link_at v'.links d)
             s.current
             (subst (λ ls. kept_of ((linked w v.current (whole.cut_off (w.links v.current) k)).links d) ≡ link_at ls d)

@@ -2,7 +2,6 @@
 use Rattle.std.proofs.Common.{◌≡◌, ℕ, ◌<◌, true, false, List, [], ◌∷◌, ◌++◌, Option, Some, None, nat_eq, flat_map, refl, sym, ◌∙◌, ap, subst, inl, inr, append-nil, append_assoc, true≢false}
 use Rattle.fibs_fields.specs.Board.{BoardFields as Board}
 use Rattle.fibs_position.specs.DecisionValue.{DecisionValue as Decision}
-use Rattle.fibs_position.specs.GamePart.{same_game}
 use Rattle.fibs_position.specs.GoodBoard.{good as is_good}
 use Rattle.fibs_session.specs.History.Log.{Entry, Sent}
 use Rattle.fibs_session.specs.History.Allows.{allows}
@@ -36,7 +35,7 @@ module _ (law : Lawful) where
   -- sent in this stretch, and the board shown last allows it. The boards still to be noted are that one.
   pub joint_asked : (more : List Board) (w : World) (first : List Entry) (d : Decision) (b : Board)
       → ChangesNothing first → Joint more w → open_now w.log ≡ w.logged_in → 0 < w.logged_in
-      → is_spent same_game w.logged_in w.log ≡ false
+      → is_spent w.logged_in w.log ≡ false
       → last (shown w.logged_in w.log) ≡ Some b → allows b d ≡ None
       → Joint more
       (asks (noted w (first ++ Sent w.logged_in b d ∷ [])) w.logged_in (command b d ∷ []))
@@ -67,8 +66,8 @@ module _ (law : Lawful) where
       let two : w.log ++ es ≡ (w.log ++ first) ++ one = sym (append_assoc w.log first one) in
       let sc : shown w.logged_in (w.log ++ first) ≡ shown w.logged_in w.log =
       map_no_more (shown_by w.logged_in) w.log first (idle.shows_none w.logged_in) in
-      let sp : is_spent same_game w.logged_in n.log ≡ true = ap (is_spent same_game w.logged_in) two
-      ∙ spent_sent same_game w.logged_in (w.log ++ first) b d (ap is_empty sc ∙ before_last _ b la) in
+      let sp : is_spent w.logged_in n.log ≡ true = ap (is_spent w.logged_in) two
+      ∙ spent_sent w.logged_in (w.log ++ first) b d (ap is_empty sc ∙ before_last _ b la) in
       let cl : Calm w.board (b ∷ waiting more (w.links w.logged_in)) = rw la at f.1.calm in
       let v : Current true (log_of n w.logged_in) l' w.board (waiting more l') = record {
         p = Some (b, d);
@@ -97,7 +96,7 @@ module _ (law : Lawful) where
       (rw t v')
       (λ h. absurd
       (true≢false (sym h
-      ∙ (ap (has_moved_on same_game w.logged_in) two ∙ moved_sent same_game w.logged_in (w.log ++ first) b d))))
+      ∙ (ap (has_moved_on w.logged_in) two ∙ moved_sent w.logged_in (w.log ++ first) b d))))
       (λ o. rw (linked_same n w.logged_in l') ((j.each w.logged_in).wire o some))
     where
       free : (p : Option Ask) → sent w.logged_in w.log ≡ took w.logged_in w.log ++ to_list p

@@ -11,6 +11,7 @@ use Rattle.fibs_session.specs.History.Words.{Ask, one_if, is_empty, last, each, 
 use Rattle.fibs_model.specs.Wires.{Link, delivered}
 use Rattle.fibs_model.specs.Server.{command}
 use Rattle.fibs_model.specs.World.{does_heard, World, noted, linked, asks, hears, hears_all}
+use Rattle.fibs_session.proofs.History.Joins.{message_heard}
 use Rattle.fibs_session.proofs.History.Moving.{has_moved_on, moved_shown}
 use Rattle.fibs_model.proofs.Lawful.{Lawful, AllQuiet}
 use Rattle.std.specs.Prelude.{if◌then◌else◌}
@@ -38,15 +39,15 @@ module _ (law : Lawful) where
     where
       seen' : last (shown c w'.log) ≡ Some b
       seen' =
-          ap (λ l. last (shown c l)) e ∙ ap last (shown_more same_game law.likeness c w.log b)
+          ap (λ l. last (shown c l)) e ∙ ap last (shown_more law.likeness c w.log b)
           ∙ last_snoc (shown c w.log) b
 
       same : (v : Board) → last (shown c w.log) ≡ Some v → same_game v b ≡ true
-          → is_spent same_game c w'.log ≡ is_spent same_game c w.log
-      same v h k = ap (is_spent same_game c) e ∙ spent_same same_game law.likeness c w.log v b h k
+          → is_spent c w'.log ≡ is_spent c w.log
+      same v h k = ap (is_spent c) e ∙ spent_same law.likeness c w.log v b h k
 
-      other : (v : Board) → last (shown c w.log) ≡ Some v → same_game v b ≡ false → is_spent same_game c w'.log ≡ false
-      other v h k = ap (is_spent same_game c) e ∙ spent_other same_game law.likeness c w.log v b h k
+      other : (v : Board) → last (shown c w.log) ≡ Some v → same_game v b ≡ false → is_spent c w'.log ≡ false
+      other v h k = ap (is_spent c) e ∙ spent_other law.likeness c w.log v b h k
 
       none : (xs : List Board) → last xs ≡ None → xs ≡ []
       none [] h = refl
@@ -58,10 +59,10 @@ module _ (law : Lawful) where
           some (z ∷ []) y ys k h = cc
           some (z ∷ z' ∷ zs) y ys k h = some (z' ∷ zs) z' zs refl h
 
-      fresh : (o : Option Board) → last (shown c w.log) ≡ o → is_spent same_game c w.log ≡ false
-          → is_spent same_game c w'.log ≡ false
+      fresh : (o : Option Board) → last (shown c w.log) ≡ o → is_spent c w.log ≡ false
+          → is_spent c w'.log ≡ false
       fresh None h k =
-          ap (is_spent same_game c) e ∙ spent_first same_game law.likeness c w.log b (none (shown c w.log) h)
+          ap (is_spent c) e ∙ spent_first law.likeness c w.log b (none (shown c w.log) h)
       fresh (Some v) h k = elim (cases_Bool (same_game v b)) [ inl t ↦ same v h t ∙ k | inr f ↦ other v h f ]
 
       drop_one : (o : Option Board) → Calm now (to_list o ++ b ∷ more) → Calm now (b ∷ more)
@@ -157,13 +158,13 @@ module _ (law : Lawful) where
         held = cur.held;
         live = λ o. live_shown w.logged_in w.board b _ cur.p w w' refl cur.held (cur.live o);
       })
-      (λ h. et ∙ moved cur.p cur.owed cur.held (cur.live t) (moved_shown same_game law.likeness w.logged_in w.log b h)
+      (λ h. et ∙ moved cur.p cur.owed cur.held (cur.live t) (moved_shown law.likeness w.logged_in w.log b h)
       ∙ sym es)
       (λ o. (j.each w.logged_in).wire o some)
     where
       moved : (p : Option Ask) → sent w.logged_in w.log ≡ took w.logged_in w.log ++ to_list p → Held w.board p
           → Live (log_of w w.logged_in) w.board (waiting (b ∷ more) (w.links w.logged_in)) p
-          → (has_moved_on same_game w.logged_in w.log ≡ true)
+          → (has_moved_on w.logged_in w.log ≡ true)
           ⊎ ((a : Ask) × (last (sent w.logged_in w.log) ≡ Some a) × (same_game a.0 b ≡ false))
           → took w.logged_in w.log ≡ sent w.logged_in w.log
       moved p o h y (inl k) = (j.each w.logged_in).moved k
@@ -222,7 +223,7 @@ module _ (law : Lawful) where
           let r = due_rolls law c w.log b y.here due in
           let asked =
           joint_asked law more w1 [] roll b no_entries noted_first (r.still ∙ sym y.mine) have
-          (subst (λ e. is_spent same_game e (w.log ++ Shown c b ∷ []) ≡ false) (sym y.mine) r.fresh)
+          (subst (λ e. is_spent e (w.log ++ Shown c b ∷ []) ≡ false) (sym y.mine) r.fresh)
           (subst (λ e. last (shown e (w.log ++ Shown c b ∷ [])) ≡ Some b) (sym y.mine) r.is_last) r.allowed in
           record {
             joint =
@@ -243,7 +244,8 @@ module _ (law : Lawful) where
       (is_due c (w.log ++ Shown c b ∷ []) b) refl)
       (λ z. no_entry c more w some
       (record { joint = subst (λ t. Joint (one_if t b ++ more) w) z y.joint; here = y.here; mine = y.mine }))
-  hears_one c more w (numbered_line m) some y = if_fact (λ h. Hearing c more (does_heard c w h)) (nat_eq m.number 1) _ _
+  hears_one c more w (numbered_line m) some y = subst (λ h. Hearing c more (does_heard c w h))
+      (sym (message_heard c w.log m)) (if_fact (λ h. Hearing c more (does_heard c w h)) (nat_eq m.number 1) _ _
       (λ z. finish c more w
       (record {
         entries = Welcomed c ∷ [];
@@ -265,7 +267,7 @@ module _ (law : Lawful) where
       (joint_noted more w (Informed c (flags_of m) ∷ []) y.joint (λ d. refl) (λ d. refl) (λ d. refl) refl)
       (open_append 0 w.log (Informed c (flags_of m) ∷ []) ∙ y.here) y.mine
       (if_fact AllQuiet (is_empty (informed c w.log)) _ _ (λ z. law.info_quiet m) (λ z. tt)))
-      (λ z. no_entry c more w some y))
+      (λ z. no_entry c more w some y)))
   hears_one c more w (text_line t) some y = no_entry c more w some y
   hears_one c more w (malformed_line n k f) some y = no_entry c more w some y
 

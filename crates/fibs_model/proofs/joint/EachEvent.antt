@@ -8,7 +8,7 @@ use Rattle.fibs_commands.specs.declared.plain.PlainFault.{PlainFault}
 use Rattle.std.specs.Prelude.{option_map}
 use Rattle.fibs_session.specs.declared.histories.refusal.PlainRefusal.{PlainRefusal}
 use Rattle.fibs_session.specs.declared.histories.refusal.PlainRefusal.TheVariants as P
-use Rattle.fibs_session.specs.declared.histories.refusal.Refusal.{Refusal}
+use Rattle.fibs_game.specs.declared.refusal.Refusal.{Refusal}
 use Rattle.fibs_session.specs.History.Log.{Entry, Ordered, Withdrawn}
 use Rattle.fibs_session.specs.History.Machine.{plain_refusal, may_send, order_refusal, withdraw_refusal, on_wire}
 use Rattle.fibs_model.specs.Acts.{Act, acts_on, acts_from}

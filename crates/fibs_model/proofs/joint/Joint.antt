@@ -31,8 +31,8 @@ log_of w c =
       seen = shown c w.log;
       sends = sent c w.log;
       takes = took c w.log;
-      spent = is_spent same_game c w.log;
-      moved = has_moved_on same_game c w.log;
+      spent = is_spent c w.log;
+      moved = has_moved_on c w.log;
     }
 
 -- all boards are this one
@@ -178,8 +178,8 @@ same_log w w' es c e h k m = log_path
     (ap (shown c) e ∙ map_no_more (shown_by c) w.log es h)
     (ap (sent c) e ∙ map_no_more (sent_by c) w.log es k)
     (ap (took c) e ∙ map_no_more (took_by c) w.log es m)
-    (ap (is_spent same_game c) e ∙ spent_quiet same_game c w.log es h k)
-    (ap (has_moved_on same_game c) e ∙ moved_quiet same_game c w.log es h k)
+    (ap (is_spent c) e ∙ spent_quiet c w.log es h k)
+    (ap (has_moved_on c) e ∙ moved_quiet c w.log es h k)
 
 -- a wire that is set is there
 pub linked_same : (w : World) (c : ℕ) (l : Link) → (linked w c l).links c ≡ l

@@ -248,8 +248,8 @@ module _ (law : Lawful) where
       ap (sent w.logged_in) eg ∙ map_no_more (sent_by w.logged_in) w.log es refl in
       let sb : shown w.logged_in w'.log ≡ shown w.logged_in w.log =
       ap (shown w.logged_in) eg ∙ map_no_more _ w.log es refl in
-      let sp : is_spent same_game w.logged_in w'.log ≡ is_spent same_game w.logged_in w.log =
-      ap (is_spent same_game w.logged_in) eg ∙ spent_quiet same_game w.logged_in w.log es refl refl in
+      let sp : is_spent w.logged_in w'.log ≡ is_spent w.logged_in w.log =
+      ap (is_spent w.logged_in) eg ∙ spent_quiet w.logged_in w.log es refl refl in
       let owed : sent w.logged_in w.log ≡ took w.logged_in w.log ++ a ∷ [] =
       cur.owed ∙ ap (λ p. took w.logged_in w.log ++ to_list p) isp in
       let oc : open_now w'.log ≡ open_now w.log = ap open_now eg ∙ open_append 0 w.log es in

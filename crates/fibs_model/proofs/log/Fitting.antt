@@ -1,8 +1,6 @@
 -- What holds of each entry of a log, after the entries before it.
 use Rattle.std.proofs.Common.{◌≡◌, List, [], ◌∷◌, ◌++◌, Some, sym, subst, append-nil, append_assoc}
-use Rattle.fibs_position.specs.GamePart.{same_game}
 use Rattle.fibs_session.specs.History.Log.{Entry, Shown, Clicked, Sent}
-use Rattle.fibs_session.specs.History.Allows.{allows}
 use Rattle.fibs_session.specs.History.Words.{last, open_now, shown, answer}
 use Rattle.fibs_model.specs.Headline.{AllAnswered, AllOnShown}
 use Rattle.fibs_model.proofs.log.Called.{AllShownHere}
@@ -11,7 +9,7 @@ use Rattle.fibs_model.proofs.log.Called.{AllShownHere}
 -- shown last
 abbrev pub Fits : List Entry → Entry → Type 0
 Fits before (Shown c b) = c ≡ open_now before
-Fits before (Clicked c d a) = (c ≡ open_now before) × (a ≡ answer same_game allows before d)
+Fits before (Clicked c d a) = (c ≡ open_now before) × (a ≡ answer before d)
 Fits before (Sent c b d) = last (shown c before) ≡ Some b
 Fits before e = Unit {0}
 

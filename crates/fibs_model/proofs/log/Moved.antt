@@ -40,24 +40,24 @@ each_fails p (x ∷ xs) y ys h = step (p x) _ (each_fails p xs y ys h)
     step false b h = refl
 
 -- the log has moved on from its last decision, if a board unlike it is shown after it
-moved_at : (like : Board → Board → Bool) (c : ℕ) (before rest : List Entry) (b : Board) (d : Decision)
-    → sent c rest ≡ [] → each (like b) (shown c rest) ≡ false → has_moved_on like c (before ++ Sent c b d ∷ rest) ≡ true
-moved_at like c [] rest b d h k =
-    here (nat_eq c c) (is_empty (sent c rest)) (each (like b) (shown c rest)) (has_moved_on like c rest) (same_number c)
+moved_at : (c : ℕ) (before rest : List Entry) (b : Board) (d : Decision)
+    → sent c rest ≡ [] → each (same_game b) (shown c rest) ≡ false → has_moved_on c (before ++ Sent c b d ∷ rest) ≡ true
+moved_at c [] rest b d h k =
+    here (nat_eq c c) (is_empty (sent c rest)) (each (same_game b) (shown c rest)) (has_moved_on c rest) (same_number c)
     (ap is_empty h) k
   where
     here : (t e z x : Bool) → t ≡ true → e ≡ true → z ≡ false → (if t && e then not z else x) ≡ true
     here t e z x p q r = rw (p, q, r) refl
-moved_at like c (Sent e b' m ∷ before) rest b d h k =
+moved_at c (Sent e b' m ∷ before) rest b d h k =
     pass (nat_eq e c) (is_empty (sent c (before ++ Sent c b d ∷ rest)))
-    (not (each (like b') (shown c (before ++ Sent c b d ∷ rest)))) (has_moved_on like c (before ++ Sent c b d ∷ rest))
+    (not (each (same_game b') (shown c (before ++ Sent c b d ∷ rest)))) (has_moved_on c (before ++ Sent c b d ∷ rest))
     (ap is_empty (sent_with c before rest b d) ∙ not_empty_at (sent c before) (b, d) (sent c rest))
-    (moved_at like c before rest b d h k)
+    (moved_at c before rest b d h k)
   where
     pass : (t e z x : Bool) → e ≡ false → x ≡ true → (if t && e then z else x) ≡ true
     pass true e z x p q = rw p q
     pass false e z x p q = q
-moved_at like c (x ∷ before) rest b d h k = moved_at like c before rest b d h k
+moved_at c (x ∷ before) rest b d h k = moved_at c before rest b d h k
 
 -- if at most the last of a list is missing, what is before others is not
 front : (t : List Ask) (p : Option Ask) (xs : List Ask) (y : Ask) (r : List Ask) → t ++ to_list p ≡ xs ++ y ∷ r
@@ -79,7 +79,7 @@ front (s ∷ t) (Some a) (x ∷ xs) y r h k =
 -- the sentence, from what holds of each connection
 pub all_moved_on : Lawful → (log : List Entry)
     → ((c : ℕ) → (p : Option Ask) × (sent c log ≡ took c log ++ to_list p))
-    → ((c : ℕ) → has_moved_on same_game c log ≡ true → took c log ≡ sent c log) → AllMovedOn log
+    → ((c : ℕ) → has_moved_on c log ≡ true → took c log ≡ sent c log) → AllMovedOn log
 all_moved_on law log settled moved before between later c b now d is differ =
     subst (λ l. IsPrefixOf l (took c log)) (sym (sent_with c before [] b d))
     (go (is_empty (sent c rest)) refl)
@@ -98,8 +98,8 @@ all_moved_on law log settled moved before between later c b now d is differ =
     go : (z : Bool) → is_empty (sent c rest) ≡ z → IsPrefixOf (sent c before ++ (b, d) ∷ []) (took c log)
     go true e =
         let none : sent c rest ≡ [] = empty_none (sent c rest) e in
-        let gone : has_moved_on same_game c log ≡ true =
-        ap (has_moved_on same_game c) is ∙ moved_at same_game c before rest b d none unlike in
+        let gone : has_moved_on c log ≡ true =
+        ap (has_moved_on c) is ∙ moved_at c before rest b d none unlike in
         ([], append-nil _ ∙ ap (λ l. sent c before ++ (b, d) ∷ l) (sym none) ∙ sym all ∙ sym (moved c gone))
     go false e =
         let s = settled c in front (took c log) s.0 (sent c before) (b, d) (sent c rest) (sym s.1 ∙ all) e

@@ -6,7 +6,7 @@ use Rattle.std.proofs.lemmas.Bool.Decides.{eqb_tells}
 use Rattle.std.proofs.lemmas.Bool.{cases_lt}
 use Rattle.fibs_fields.specs.Board.{BoardFields as Board}
 use Rattle.fibs_position.specs.DecisionValue.{DecisionValue as Decision, roll}
-use Rattle.fibs_session.specs.declared.histories.refusal.Refusal.{Refusal}
+use Rattle.fibs_game.specs.declared.refusal.Refusal.{Refusal}
 use Rattle.fibs_session.specs.History.Log.{Entry, Shown, Clicked, Sent, Took, Undone}
 use Rattle.fibs_session.specs.History.Orders.{is_due}
 use Rattle.fibs_session.specs.History.Words.{Ask, one_if, last, shown, shown_by, open_now, sent, took, sent_by, took_by, answer}
@@ -15,7 +15,6 @@ use Rattle.fibs_model.proofs.log.Called.{roll_if, Called, called_append}
 use Rattle.fibs_model.proofs.log.Fitting.{AllFit, fit_append}
 use Rattle.fibs_session.proofs.History.Lists.{last_snoc, same_number, other_number, map_no_more, map_more, one_of_true, one_of_false}
 use Rattle.fibs_session.specs.History.Allows.{allows}
-use Rattle.fibs_position.specs.GamePart.{same_game}
 use Rattle.fibs_position.specs.GoodBoard.{good as is_good}
 
 -- each of the decisions was allowed on its board, which is good, by the tests
@@ -250,13 +249,13 @@ told_rolled log c b good here due allowed t =
     one false = tt
 
 -- a click is noted that is refused
-pub told_no : (log : List Entry) (d : Decision) (x : Refusal) → answer same_game allows log d ≡ Some x → Told log
+pub told_no : (log : List Entry) (d : Decision) (x : Refusal) → answer log d ≡ Some x → Told log
     → Told (log ++ Clicked (open_now log) d (Some x) ∷ [])
 told_no log d x h t =
     grown log _ t (refl, refl) tt ((refl, sym h), tt) (λ c. tt) (λ c. tt) (λ c. order_more c log _ (t.order c) refl)
 
 -- a click is noted that is answered by yes, with what is sent
-pub told_yes : (log : List Entry) (d : Decision) (b : Board) → answer same_game allows log d ≡ None → allows b d ≡ None
+pub told_yes : (log : List Entry) (d : Decision) (b : Board) → answer log d ≡ None → allows b d ≡ None
     → last (shown (open_now log) log) ≡ Some b → Told log
     → Told (log ++ Clicked (open_now log) d None ∷ Sent (open_now log) b d ∷ [])
 told_yes log d b h k la t =

@@ -5,7 +5,6 @@ use Rattle.std.proofs.lemmas.List.Concat.{flat_map-append}
 use Rattle.std.proofs.lemmas.Option.{same_Some}
 use Rattle.fibs_lines.specs.Lines.{ReadLine as Line, lines_of}
 use Rattle.fibs_fields.specs.Board.{BoardFields as Board, spelling}
-use Rattle.fibs_position.specs.GamePart.{same_game}
 use Rattle.fibs_position.specs.GoodBoard.{good as is_good}
 use Rattle.fibs_session.specs.History.Hearing.{line_reading}
 use Rattle.fibs_session.specs.History.Log.{Entry, Opened, Took, Undone, Lost}
@@ -173,7 +172,7 @@ stands_after login w (Lose k) j h =
       refl,
       λ some e.
           let o : open_now (after login w (Lose k)).log ≡ 0 =
-          open_append 0 w.log (Lost (open_now w.log) (unconfirmed same_game (open_now w.log) w.log) ∷ []) in
+          open_append 0 w.log (Lost (open_now w.log) (unconfirmed (open_now w.log) w.log) ∷ []) in
           absurd (omega arith),
     )
 stands_after login w (Serve c d1 d2) j h =
@@ -360,7 +359,7 @@ module _ (law : Lawful) where
   hears_after login w (Deliver n) h = hears_delivered login w n h
   hears_after login w (Lose k) h =
       hears_mute w (after login w (Lose k))
-      (Lost (open_now w.log) (unconfirmed same_game (open_now w.log) w.log) ∷ []) refl (λ c. refl)
+      (Lost (open_now w.log) (unconfirmed (open_now w.log) w.log) ∷ []) refl (λ c. refl)
       (linked_keeps (λ (x : Link). x.heard) w (open_now w.log) (cut_off (w.links (open_now w.log)) k) refl) h
   hears_after login w (Serve c d1 d2) h = hears_serves c d1 d2 w (next_line (w.links c).asked) h
   hears_after login w (Own b) h =

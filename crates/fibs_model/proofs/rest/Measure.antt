@@ -4,13 +4,12 @@ use Rattle.std.proofs.Common.{◌≡◌, ◌⊎◌, ℕ, ◌+◌, ◌<◌, ◌�
 use Rattle.std.proofs.lemmas.Bool.{or_left, or_right}
 use Rattle.std.proofs.lemmas.Option.{some_pair_parts}
 use Rattle.fibs_lines.specs.Lines.{ReadLine as Line}
-use Rattle.fibs_fields.specs.Board.{BoardFields as Board, spelling}
+use Rattle.fibs_fields.specs.Board.{BoardFields as Board, spelling, field_of}
 use Rattle.fibs_messages.specs.Flags.{autoboard, moreboards}
 use Rattle.fibs_messages.specs.Line.{ReadingValue, numbered_line, board_line, text_line, malformed_line}
 use Rattle.fibs_messages.specs.Message.{MessageValue}
 use Rattle.fibs_commands.specs.FirstCommands.{style_text, autoboard_text, moreboards_text, board_text}
 use Rattle.fibs_position.specs.DecisionValue.{roll}
-use Rattle.fibs_position.specs.GamePart.{same_game}
 use Rattle.fibs_position.specs.GoodBoard.{good as is_good}
 use Rattle.fibs_position.specs.Phases.{phase_of}
 use Rattle.fibs_session.specs.History.Hearing.{Heard, nothing_heard, flags_of, line_reading, initial_commands, shows_board}
@@ -18,7 +17,7 @@ use Rattle.fibs_session.specs.History.Log.{Entry, Flags, Welcomed, Informed, Sho
 use Rattle.fibs_session.specs.History.Log as L
 use Rattle.fibs_session.specs.History.Machine.{on_wire, wire_of}
 use Rattle.fibs_session.specs.History.Orders.{is_due, is_to_roll}
-use Rattle.fibs_session.specs.History.Words.{Ask, one_if, is_empty, last, open_now, shown, sent, sent_by, took, took_by, is_spent, welcomed, welcomed_by, informed, informed_by}
+use Rattle.fibs_session.specs.History.Words.{Ask, one_if, is_empty, last, open_now, shown, sent, sent_by, took, took_by, is_spent, welcomed, welcomed_by, informed, informed_by, is_ordered, answer}
 use Rattle.fibs_model.specs.Joint.{AreLines}
 use Rattle.fibs_model.specs.Server.{Served, user_decides}
 use Rattle.fibs_model.specs.Server as V
@@ -27,6 +26,9 @@ use Rattle.fibs_model.specs.World.{World, noted, linked, sends, does_heard, hear
 use Rattle.fibs_model.proofs.Lawful.{Lawful, NoReturn}
 use Rattle.fibs_model.proofs.ServerActs.{sends_board, sends_log, answers_keep, answers_served}
 use Rattle.fibs_session.proofs.History.Lists.{same_number, other_number, and_left, and_right, map_more, map_no_more, to_list}
+use Rattle.fibs_session.proofs.History.Joins.{message_heard}
+use Rattle.std.specs.Prelude.{pos, is_none, ◌&&◌}
+use Rattle.std.specs.Ordering.{int_eq}
 use Rattle.fibs_session.proofs.History.Past.{open_append}
 use Rattle.fibs_session.proofs.History.Words.{own}
 use Rattle.fibs_model.proofs.log.Due.{due_rolls}
@@ -435,15 +437,15 @@ module _ (k : ℕ) where
         let cur = current more w1 j some' in
         let still : open_now w1.log ≡ w.logged_in =
         open_append 0 w.log (Shown w.logged_in b ∷ []) ∙ y.here ∙ sym y.mine in
-        let quiet : is_spent same_game w.logged_in w1.log ≡ false =
-        subst (λ d. is_spent same_game d (w.log ++ Shown d b ∷ []) ≡ false) (sym y.mine) r.fresh in
+        let quiet : is_spent w.logged_in w1.log ≡ false =
+        subst (λ d. is_spent d (w.log ++ Shown d b ∷ []) ≡ false) (sym y.mine) r.fresh in
         let is_last : last (shown w.logged_in w1.log) ≡ Some b =
         subst (λ d. last (shown d (w.log ++ Shown d b ∷ [])) ≡ Some b) (sym y.mine) r.is_last in
         go w1 quiet is_last (law.allowed_decides b roll r.allowed) cur.p cur.owed (cur.live (same_test _ _ still))
         (map_no_more (sent_by w.logged_in) w.log (Shown w.logged_in b ∷ []) refl)
         (map_no_more (took_by w.logged_in) w.log (Shown w.logged_in b ∷ []) refl)
       where
-        go : (w1 : World) → is_spent same_game w.logged_in w1.log ≡ false → last (shown w.logged_in w1.log) ≡ Some b
+        go : (w1 : World) → is_spent w.logged_in w1.log ≡ false → last (shown w.logged_in w1.log) ≡ Some b
             → user_decides b ≡ true → (p : Option Ask)
             → sent w.logged_in w1.log ≡ took w.logged_in w1.log ++ to_list p
             → Live (log_of w1 w.logged_in) w.board (waiting more (w1.links w.logged_in)) p
@@ -463,7 +465,10 @@ module _ (k : ℕ) where
     -- an order is due only if the player is to roll
     due_to_roll : (c : ℕ) (log : List Entry) (b : Board) → is_due c log b ≡ true → is_to_roll (phase_of b) ≡ true
     unfolding is_due
-    due_to_roll c log b h = and_left _ _ (and_right _ _ (and_right _ _ h))
+    due_to_roll c log b h =
+        and_right (int_eq (field_of b 39) (pos 0)) (is_to_roll (phase_of b))
+        (and_left (int_eq (field_of b 39) (pos 0) && is_to_roll (phase_of b)) (is_none (answer log roll))
+        (and_right (is_ordered c log) _ h))
 
     -- a good board that is heard: the roll that it calls forth was due
     lighter_shows : (c : ℕ) (more : List Board) (w : World) (b : Board) → 0 < c → is_good b ≡ true
@@ -510,9 +515,10 @@ module _ (k : ℕ) where
         (is_due c (w.log ++ Shown c b ∷ []) b) refl)
         (λ z. lighter_quiet c false w nothing_heard refl refl refl refl refl)
     lighter_one c more w (numbered_line m) some y =
-        if_fact (λ h. Lighter c true w (does_heard c w h)) (nat_eq m.number 1) _ _ (λ z. lighter_welcome c w)
+        subst (λ h. Lighter c true w (does_heard c w h)) (sym (message_heard c w.log m))
+        (if_fact (λ h. Lighter c true w (does_heard c w h)) (nat_eq m.number 1) _ _ (λ z. lighter_welcome c w)
         (λ z. if_fact (λ h. Lighter c true w (does_heard c w h)) (nat_eq m.number 2) _ _ (λ z. lighter_inform c w m)
-        (λ z. lighter_quiet c true w nothing_heard refl refl refl refl refl))
+        (λ z. lighter_quiet c true w nothing_heard refl refl refl refl refl)))
     lighter_one c more w (text_line t) some y = lighter_quiet c false w nothing_heard refl refl refl refl refl
     lighter_one c more w (malformed_line n at f) some y = lighter_quiet c false w nothing_heard refl refl refl refl refl
 

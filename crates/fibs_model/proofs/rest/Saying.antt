@@ -6,7 +6,6 @@ use Rattle.std.proofs.lemmas.List.Concat.{flat_map-append}
 use Rattle.std.proofs.lemmas.Option.{some_pair_parts}
 use Rattle.fibs_fields.specs.Board.{BoardFields as Board, spelling}
 use Rattle.fibs_position.specs.DecisionValue.{DecisionValue as Decision}
-use Rattle.fibs_position.specs.GamePart.{same_game}
 use Rattle.fibs_position.specs.GoodBoard.{good as is_good}
 use Rattle.fibs_session.specs.History.Log.{Opened, Lost}
 use Rattle.fibs_session.specs.History.Log as L
@@ -393,7 +392,7 @@ module _ (law : Lawful) where
       closed : 0 < open_now (after login w (Lose k)).log → ⊥
       closed z =
           let o : open_now (after login w (Lose k)).log ≡ 0 =
-          open_append 0 w.log (Lost (open_now w.log) (unconfirmed same_game (open_now w.log) w.log) ∷ []) in
+          open_append 0 w.log (Lost (open_now w.log) (unconfirmed (open_now w.log) w.log) ∷ []) in
           absurd (omega arith)
 
   -- each event keeps the invariant

@@ -4,8 +4,8 @@ use Rattle.fibs_lines.specs.LinesValue.{LinesValue, StandsAfter as LinesStandAft
 use Rattle.fibs_fields.specs.Board.{BoardFields}
 use Rattle.fibs_position.specs.DecisionValue.{DecisionValue}
 use Rattle.fibs_commands.specs.PlainCommands.{PlainValue}
-use Rattle.fibs_session.specs.declared.histories.refusal.Refusal.{Refusal}
-use Rattle.fibs_session.specs.declared.histories.refusal.Refusal.TheVariants.{AlreadyOpen}
+use Rattle.fibs_game.specs.declared.refusal.Refusal.{Refusal}
+use Rattle.fibs_game.specs.declared.refusal.Refusal.TheVariants.{AlreadyOpen}
 use Rattle.fibs_session.specs.declared.histories.refusal.PlainRefusal.{PlainRefusal}
 use Rattle.fibs_session.specs.History.Log.{Lost, Entry, Ordered, Withdrawn}
 use Rattle.fibs_session.specs.History.Words.{last, open_now, shown}

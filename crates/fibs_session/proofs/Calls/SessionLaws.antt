@@ -4,8 +4,8 @@ use Rattle.fibs_lines.specs.Lines.{ReadLine}
 use Rattle.fibs_position.specs.DecisionValue.{DecisionValue}
 use Rattle.fibs_position.specs.GamePart.{same_game}
 use Rattle.fibs_commands.specs.PlainCommands.{PlainValue, plain_of}
-use Rattle.fibs_session.specs.declared.histories.refusal.Refusal.{Refusal}
-use Rattle.fibs_session.specs.declared.histories.refusal.Refusal.TheVariants.{AlreadyOpen}
+use Rattle.fibs_game.specs.declared.refusal.Refusal.{Refusal}
+use Rattle.fibs_game.specs.declared.refusal.Refusal.TheVariants.{AlreadyOpen}
 use Rattle.fibs_session.specs.declared.histories.refusal.PlainRefusal.{PlainRefusal}
 use Rattle.fibs_session.specs.History.Log.{Lost}
 use Rattle.fibs_session.specs.History.Words.{Ask, IsLikeness, last, open_now, shown, unconfirmed}
@@ -86,7 +86,7 @@ lose_does v v' e = record {
 -- the decision that waits is what is unconfirmed
 pub waiting_law : (v : SessionValue) (t : Talk) → SessionStandsAfter v t → v.waiting ≡ unconfirmed_now t
 unfolding SessionStandsAfter
-waiting_law v t at = at.not_confirmed ∙ ap (λ n. unconfirmed same_game n t.log) (sym at.is_open)
+waiting_law v t at = at.not_confirmed ∙ ap (λ n. unconfirmed n t.log) (sym at.is_open)
 
 -- the board that is shown is the last of the open connection
 pub shown_law : (v : SessionValue) (t : Talk) → SessionStandsAfter v t → v.shown ≡ shown_now t

@@ -7,7 +7,7 @@ use Rattle.fibs_position.specs.DirectionOf.{direction_of}
 use Rattle.fibs_commands.specs.Commands.{command_of}
 use Rattle.fibs_position.specs.GamePart.{same_game}
 use Rattle.fibs_commands.specs.PlainCommands.{automove_off, greedy_off, plain_of}
-use Rattle.fibs_session.specs.declared.histories.refusal.Refusal.{Refusal}
+use Rattle.fibs_game.specs.declared.refusal.Refusal.{Refusal}
 use Rattle.fibs_session.specs.History.Log.{Entry, Flags, Opened, Welcomed, Informed, Shown, Clicked, Sent, Lost, Ordered, Withdrawn}
 use Rattle.fibs_session.specs.History.Words.{Ask, is_empty, last, open_now, opened_by, connections, shown, sent, welcomed, informed, welcomed_by, informed_by, shown_by, sent_by, is_spent, unconfirmed, IsLikeness, open_from, orders, orders_by, is_given}
 use Rattle.fibs_session.specs.History.Hearing.{confirmed_by_board}
@@ -211,8 +211,8 @@ module _ (v : SessionValue) (t : Talk) (at : At v t) where
       let i : not (is_some v.flags) ≡ is_empty (informed (open_now t.log) t.log) =
       not_not _ _ (ap is_some f ∙ some_last (informed (open_now t.log) t.log)) in
       let b : v.shown ≡ last (shown (open_now t.log) t.log) = at.on_board ∙ ap (λ n. last (shown n t.log)) e in
-      let k : is_some v.waiting ≡ is_spent same_game (open_now t.log) t.log =
-      ap is_some at.not_confirmed ∙ some_spent c t.log ∙ ap (λ n. is_spent same_game n t.log) e in
+      let k : is_some v.waiting ≡ is_spent (open_now t.log) t.log =
+      ap is_some at.not_confirmed ∙ some_spent c t.log ∙ ap (λ n. is_spent n t.log) e in
       cc
 
   -- a decision is sent, on the board that is shown
@@ -223,10 +223,10 @@ module _ (v : SessionValue) (t : Talk) (at : At v t) where
       let es : List Entry = Sent c b d ∷ [] in
       let texts : List (List ℕ) = command_of (direction_of b) d ∷ [] in
       let off : NoToggles texts = one_text _ (decision_no_toggle (direction_of b) d) in
-      let sp : is_spent same_game c (t.log ++ es) ≡ true = spent_sent same_game c t.log b d (before_last _ b lb) in
+      let sp : is_spent c (t.log ++ es) ≡ true = spent_sent c t.log b d (before_last _ b lb) in
       let ls : last (sent c (t.log ++ es)) ≡ Some (b, d) =
       ap last (sent_more c t.log b d) ∙ last_snoc (sent c t.log) (b, d) in
-      let un : unconfirmed same_game c (t.log ++ es) ≡ Some (b, d) = rw (sp, ls) refl in
+      let un : unconfirmed c (t.log ++ es) ≡ Some (b, d) = rw (sp, ls) refl in
       let here : open_now (t.log ++ es) ≡ c = open_append 0 t.log es ∙ at.is_open in
       record {
         conn = c;
@@ -331,27 +331,27 @@ module _ (v : SessionValue) (t : Talk) (at : At v t) where
 
     module _ (likeness : IsLikeness same_game) where
       -- what still waits after a board
-      waits : (b : Board) → still_waiting v.shown b v.waiting ≡ unconfirmed same_game c (t.log ++ Shown c b ∷ [])
+      waits : (b : Board) → still_waiting v.shown b v.waiting ≡ unconfirmed c (t.log ++ Shown c b ∷ [])
       waits b = go v.shown at.on_board
         where
           es : sent c (t.log ++ Shown c b ∷ []) ≡ sent c t.log
           es = map_no_more (sent_by c) t.log (Shown c b ∷ []) refl
 
-          over : is_spent same_game c (t.log ++ Shown c b ∷ []) ≡ false
-              → None ≡ unconfirmed same_game c (t.log ++ Shown c b ∷ [])
+          over : is_spent c (t.log ++ Shown c b ∷ []) ≡ false
+              → None ≡ unconfirmed c (t.log ++ Shown c b ∷ [])
           over h = rw h refl
 
           go : (o : Option Board) → o ≡ last (shown c t.log)
-              → still_waiting o b v.waiting ≡ unconfirmed same_game c (t.log ++ Shown c b ∷ [])
+              → still_waiting o b v.waiting ≡ unconfirmed c (t.log ++ Shown c b ∷ [])
           go None h =
               let n : shown c t.log ≡ [] = none_last _ (sym h) in
-              at.not_confirmed ∙ unconfirmed_none c t.log n ∙ over (spent_first same_game likeness c t.log b n)
+              at.not_confirmed ∙ unconfirmed_none c t.log n ∙ over (spent_first likeness c t.log b n)
           go (Some a) h = elim (cases_Bool (same_game a b)) [
             | inl s ↦ rw s (at.not_confirmed
                 ∙ ap (λ z. if z then last (sent c t.log) else None)
-                (sym (spent_same same_game likeness c t.log a b (sym h) s))
-                ∙ ap (λ l. if is_spent same_game c (t.log ++ Shown c b ∷ []) then last l else None) (sym es))
-            | inr f ↦ rw f (over (spent_other same_game likeness c t.log a b (sym h) f))
+                (sym (spent_same likeness c t.log a b (sym h) s))
+                ∙ ap (λ l. if is_spent c (t.log ++ Shown c b ∷ []) then last l else None) (sym es))
+            | inr f ↦ rw f (over (spent_other likeness c t.log a b (sym h) f))
           ]
 
       -- a good board
@@ -369,7 +369,7 @@ module _ (v : SessionValue) (t : Talk) (at : At v t) where
             has_flags = at.has_flags ∙ ap last (sym (map_no_more (informed_by c) t.log es refl));
             automove_gone = at.automove_gone ∙ sym (not_gone _ t.commands [] refl);
             greedy_gone = at.greedy_gone ∙ sym (not_gone _ t.commands [] refl);
-            on_board = sym (ap last (shown_more same_game likeness c t.log b) ∙ last_snoc (shown c t.log) b);
+            on_board = sym (ap last (shown_more likeness c t.log b) ∙ last_snoc (shown c t.log) b);
             not_confirmed = waits b;
             has_order = at.has_order ∙ ap (λ l. is_given (last l)) (sym (map_no_more (orders_by c) t.log es refl));
             numbered = numbered_own t.log es c at.numbered refl at.is_open some here (λ d. quiet_shown c d b);
@@ -378,9 +378,9 @@ module _ (v : SessionValue) (t : Talk) (at : At v t) where
       -- a board confirms by the fields what it confirms by the history
       pub confirmed_law : (b : Board) → confirmed_of v b ≡ confirmed_by_board c t.log b
       confirmed_law b =
-          let e : is_some (still_waiting v.shown b v.waiting) ≡ is_spent same_game c (t.log ++ Shown c b ∷ []) =
+          let e : is_some (still_waiting v.shown b v.waiting) ≡ is_spent c (t.log ++ Shown c b ∷ []) =
           ap is_some (waits b) ∙ some_spent c (t.log ++ Shown c b ∷ []) in
-          let w : v.waiting ≡ unconfirmed same_game c t.log = at.not_confirmed in
+          let w : v.waiting ≡ unconfirmed c t.log = at.not_confirmed in
           cc
 
 -- two notings, one after the other

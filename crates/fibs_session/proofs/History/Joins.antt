@@ -3,13 +3,15 @@ use Rattle.std.proofs.Common.{◌≡◌, ℕ, Bool, true, false, not, List, [], 
 use Rattle.std.proofs.Math.Seq.{drop-append_seam, drop-length}
 use Rattle.fibs_lines.specs.Lines.{ReadLine, lines_of}
 use Rattle.fibs_lines.specs.StreamLaws.{LinesOnlyGrow}
-use Rattle.fibs_messages.specs.Line.{ReadingValue, numbered_line, board_line, text_line, malformed_line}
+use Rattle.fibs_messages.specs.Line.{ReadingValue, numbered_line}
 use Rattle.fibs_fields.specs.Board.{BoardFields}
 use Rattle.fibs_position.specs.GoodBoard.{good}
+use Rattle.fibs_messages.specs.Message.{MessageValue}
+use Rattle.fibs_game.specs.Game.{Says, welcomes, informs, shows, says_nothing}
 use Rattle.fibs_session.specs.History.Log.{Entry, Shown}
 use Rattle.fibs_session.specs.History.Words.{open_from, open_now, opened_by}
 use Rattle.fibs_session.specs.History.Orders.{is_due}
-use Rattle.fibs_session.specs.History.Hearing.{Heard, shows_board, line_reading}
+use Rattle.fibs_session.specs.History.Hearing.{Heard, shows_board, line_reading, heard, heard_says, says}
 use Rattle.fibs_session.specs.History.Machine.{Talk, Outcome, InputValue, run, step, stays, is_online, reads, hears, hears_all, heard_by, then_also, with_bytes, gained}
 use Rattle.fibs_session.specs.History.MachineLaws.{PiecesJoin, EmptyPieceIsNothing, LinesOpenNoConnection}
 use Rattle.fibs_session.proofs.History.Past.{open_append}
@@ -30,15 +32,32 @@ shows_opens_none : (c : ℕ) (log : List Entry) (b : BoardFields) (rolls : Bool)
 shows_opens_none c log b true = (refl, λ o. refl)
 shows_opens_none c log b false = (refl, λ o. refl)
 
+-- nothing that a line says does
+says_open_none : (c : ℕ) (log : List Entry) (x : Says BoardFields MessageValue) → OpensNone (heard_says c log x)
+says_open_none c log welcomes = (refl, λ o. refl)
+says_open_none c log (informs m) = (refl, λ o. refl)
+says_open_none c log (shows b) = if_opens_none (good b)
+    _ _ (shows_opens_none c log b (is_due c (log ++ Shown c b ∷ []) b)) (refl, λ o. refl)
+says_open_none c log says_nothing = (refl, λ o. refl)
+
+-- what is heard by a choice is a choice of what is heard
+if_says : (c : ℕ) (log : List Entry) (b : Bool) (x y : Says BoardFields MessageValue)
+    → heard_says c log (if b then x else y) ≡ (if b then heard_says c log x else heard_says c log y)
+if_says c log true x y = refl
+if_says c log false x y = refl
+
+-- so a numbered message is heard by its number
+pub message_heard : (c : ℕ) (log : List Entry) (m : MessageValue) → heard c log (numbered_line m)
+    ≡ (if nat_eq m.number 1 then heard_says c log welcomes
+    else (if nat_eq m.number 2 then heard_says c log (informs m) else heard_says c log says_nothing))
+message_heard c log m =
+    if_says c log (nat_eq m.number 1) welcomes (if nat_eq m.number 2 then informs m else says_nothing)
+    ∙ ap (λ h. if nat_eq m.number 1 then heard_says c log welcomes else h)
+    (if_says c log (nat_eq m.number 2) (informs m) says_nothing)
+
 -- no line of the server opens or ends a connection
 pub lines_open_none : LinesOpenNoConnection
-lines_open_none c log (numbered_line m) =
-    if_opens_none (nat_eq m.number 1)
-    _ _ (refl, λ o. refl) (if_opens_none (nat_eq m.number 2) _ _ (refl, λ o. refl) (refl, λ o. refl))
-lines_open_none c log (board_line b) = if_opens_none (good b)
-    _ _ (shows_opens_none c log b (is_due c (log ++ Shown c b ∷ []) b)) (refl, λ o. refl)
-lines_open_none c log (text_line text) = (refl, λ o. refl)
-lines_open_none c log (malformed_line number k f) = (refl, λ o. refl)
+lines_open_none c log r = says_open_none c log (says r)
 
 -- the open connection is the same after one line
 pub hears_open : (t : Talk) (r : ReadingValue) → open_now (t.log ++ (heard_by t r).entries) ≡ open_now t.log

@@ -2,33 +2,34 @@
 use Rattle.std.proofs.Common.{◌≡◌, ℕ, Bool, true, false, not, ◌&&◌, List, [], ◌∷◌, ◌++◌, Some, if◌then◌else◌, nat_eq, refl, sym, ◌∙◌, ap, inl, inr, ◌⊎◌, true≢false}
 use Rattle.fibs_fields.specs.Board.{BoardFields as Board}
 use Rattle.fibs_position.specs.DecisionValue.{DecisionValue as Decision}
+use Rattle.fibs_position.specs.GamePart.{same_game}
 use Rattle.fibs_session.specs.History.Log.{Entry, Shown, Sent}
 use Rattle.fibs_session.specs.History.Words.{Ask, one_if, is_empty, last, each, shown_by, sent_by, shown, sent, IsLikeness}
 use Rattle.fibs_session.proofs.History.Lists.{snoc_not_empty, each_append, map_no_more}
 use Rattle.fibs_session.proofs.History.Past.{pick, shown_more, sent_more}
 
 -- a board was shown after the last Sent that is unlike the Sent's
-abbrev pub has_moved_on : (Board → Board → Bool) → ℕ → List Entry → Bool
-has_moved_on like c [] = false
-has_moved_on like c (Sent d b m ∷ later) =
-    if nat_eq d c && is_empty (sent c later) then not (each (like b) (shown c later)) else has_moved_on like c later
-has_moved_on like c (e ∷ later) = has_moved_on like c later
+abbrev pub has_moved_on : ℕ → List Entry → Bool
+has_moved_on c [] = false
+has_moved_on c (Sent d b m ∷ later) =
+    if nat_eq d c && is_empty (sent c later) then not (each (same_game b) (shown c later)) else has_moved_on c later
+has_moved_on c (e ∷ later) = has_moved_on c later
 
-module _ (like : Board → Board → Bool) (c : ℕ) where
+module _ (c : ℕ) where
   -- without a decision no board is after one
-  moved_none : (ys : List Entry) → sent c ys ≡ [] → has_moved_on like c ys ≡ false
+  moved_none : (ys : List Entry) → sent c ys ≡ [] → has_moved_on c ys ≡ false
   moved_none [] h = refl
   moved_none (Sent d b m ∷ later) h = step (nat_eq d c) h (moved_none later)
     where
-      step : (t : Bool) → one_if t (b, m) ++ sent c later ≡ [] → (sent c later ≡ [] → has_moved_on like c later ≡ false)
-          → pick t (is_empty (sent c later)) (not (each (like b) (shown c later))) (has_moved_on like c later) ≡ false
+      step : (t : Bool) → one_if t (b, m) ++ sent c later ≡ [] → (sent c later ≡ [] → has_moved_on c later ≡ false)
+          → pick t (is_empty (sent c later)) (not (each (same_game b) (shown c later))) (has_moved_on c later) ≡ false
       step true h k = cc
       step false h k = k h
   moved_none (e ∷ later) h = moved_none later h
 
   -- entries without a board and without a decision move nothing on
   pub moved_quiet : (xs ys : List Entry) → shown c ys ≡ [] → sent c ys ≡ []
-      → has_moved_on like c (xs ++ ys) ≡ has_moved_on like c xs
+      → has_moved_on c (xs ++ ys) ≡ has_moved_on c xs
   moved_quiet [] ys h k = moved_none ys k
   moved_quiet (Sent d b m ∷ later) ys h k =
       let p : shown c (later ++ ys) ≡ shown c later = map_no_more (shown_by c) later ys h in
@@ -38,7 +39,7 @@ module _ (like : Board → Board → Bool) (c : ℕ) where
   moved_quiet (e ∷ later) ys h k = moved_quiet later ys h k
 
   -- directly after a decision no board is shown
-  pub moved_sent : (xs : List Entry) (b : Board) (m : Decision) → has_moved_on like c (xs ++ Sent c b m ∷ []) ≡ false
+  pub moved_sent : (xs : List Entry) (b : Board) (m : Decision) → has_moved_on c (xs ++ Sent c b m ∷ []) ≡ false
   moved_sent [] b m = two (nat_eq c c)
     where
       two : (t : Bool) → pick t true false false ≡ false
@@ -49,8 +50,8 @@ module _ (like : Board → Board → Bool) (c : ℕ) where
       ap is_empty (sent_more c later b m) ∙ snoc_not_empty _ _ in
       let i = moved_sent later b m in
       ap
-      (λ l. pick (nat_eq d c) l (not (each (like b0) (shown c (later ++ Sent c b m ∷ []))))
-      (has_moved_on like c (later ++ Sent c b m ∷ []))) s
+      (λ l. pick (nat_eq d c) l (not (each (same_game b0) (shown c (later ++ Sent c b m ∷ []))))
+      (has_moved_on c (later ++ Sent c b m ∷ []))) s
       ∙ two (nat_eq d c) _ _ i
     where
       two : (t s x : Bool) → x ≡ false → pick t false s x ≡ false
@@ -59,37 +60,39 @@ module _ (like : Board → Board → Bool) (c : ℕ) where
   moved_sent (e ∷ later) b m = moved_sent later b m
 
 -- after one more board a connection has moved on if it had, or if the board is unlike that of the last Sent
-module _ (like : Board → Board → Bool) (law : IsLikeness like) (c : ℕ) where
+module _ (law : IsLikeness same_game) (c : ℕ) where
   -- one more board is shown: it differs from the last decision's, or one before it did
-  pub moved_shown : (xs : List Entry) (v : Board) → has_moved_on like c (xs ++ Shown c v ∷ []) ≡ true
-      → (has_moved_on like c xs ≡ true) ⊎ ((a : Ask) × (last (sent c xs) ≡ Some a) × (like a.0 v ≡ false))
+  pub moved_shown : (xs : List Entry) (v : Board) → has_moved_on c (xs ++ Shown c v ∷ []) ≡ true
+      → (has_moved_on c xs ≡ true) ⊎ ((a : Ask) × (last (sent c xs) ≡ Some a) × (same_game a.0 v ≡ false))
   moved_shown [] v h = absurd (true≢false (sym h))
   moved_shown (Sent d b m ∷ later) v h =
       let q : sent c (later ++ Shown c v ∷ []) ≡ sent c later = map_no_more (sent_by c) later (Shown c v ∷ []) refl in
-      let e : each (like b) (shown c (later ++ Shown c v ∷ []))
-      ≡ (each (like b) (shown c later) && (like b v && true)) =
-      ap (each (like b)) (shown_more like law c later v) ∙ each_append (like b) (shown c later) (v ∷ []) in
-      let h' : pick (nat_eq d c) (is_empty (sent c later)) (not (each (like b) (shown c later) && (like b v && true)))
-      (has_moved_on like c (later ++ Shown c v ∷ [])) ≡ true =
+      let e : each (same_game b) (shown c (later ++ Shown c v ∷ []))
+      ≡ (each (same_game b) (shown c later) && (same_game b v && true)) =
+      ap (each (same_game b)) (shown_more law c later v) ∙ each_append (same_game b) (shown c later) (v ∷ []) in
+      let h' : pick (nat_eq d c) (is_empty (sent c later))
+      (not (each (same_game b) (shown c later) && (same_game b v && true)))
+      (has_moved_on c (later ++ Shown c v ∷ [])) ≡ true =
       rw (← q, ← e) h in
-      step (nat_eq d c) (sent c later) (each (like b) (shown c later)) (has_moved_on like c (later ++ Shown c v ∷ []))
-      (has_moved_on like c later) h' (moved_shown later v)
+      step (nat_eq d c) (sent c later) (each (same_game b) (shown c later)) (has_moved_on c (later ++ Shown c v ∷ []))
+      (has_moved_on c later) h' (moved_shown later v)
     where
       End : List Ask → Type 0
-      End l = (a : Ask) × (last l ≡ Some a) × (like a.0 v ≡ false)
+      End l = (a : Ask) × (last l ≡ Some a) × (same_game a.0 v ≡ false)
 
-      now : (a : Bool) (y : Bool) → not (a && (like b v && true)) ≡ true → (not a ≡ true) ⊎ (like b v ≡ false)
-      now true y h = inr (three (like b v) h)
+      now : (a : Bool) (y : Bool) → not (a && (same_game b v && true)) ≡ true → (not a ≡ true) ⊎ (same_game b v ≡ false)
+      now true y h = inr (three (same_game b v) h)
         where
           three : (t : Bool) → not (t && true) ≡ true → t ≡ false
           three true h = sym h
           three false h = refl
       now false y h = inl refl
 
-      step : (t : Bool) (l : List Ask) (a x y : Bool) → pick t (is_empty l) (not (a && (like b v && true))) x ≡ true
-          → (x ≡ true → (y ≡ true) ⊎ ((a : Ask) × (last l ≡ Some a) × (like a.0 v ≡ false)))
+      step : (t : Bool) (l : List Ask) (a x y : Bool)
+          → pick t (is_empty l) (not (a && (same_game b v && true))) x ≡ true
+          → (x ≡ true → (y ≡ true) ⊎ ((a : Ask) × (last l ≡ Some a) × (same_game a.0 v ≡ false)))
           → (pick t (is_empty l) (not a) y ≡ true)
-          ⊎ ((a : Ask) × (last (one_if t (b, m) ++ l) ≡ Some a) × (like a.0 v ≡ false))
+          ⊎ ((a : Ask) × (last (one_if t (b, m) ++ l) ≡ Some a) × (same_game a.0 v ≡ false))
       step true [] a x y h k = elim (now a y h) [ inl p ↦ inl p | inr p ↦ inr ((b, m), refl, p) ]
       step true (z ∷ l) a x y h k = k h
       step false l a x y h k = k h

@@ -1,11 +1,11 @@
 -- What a piece makes a client hand out and note is taken from what is owed.
-use Rattle.std.proofs.Common.{◌≡◌, ◌≤◌, ◌+◌, ℕ, Bool, true, false, List, [], ◌∷◌, ◌++◌, length, None, if◌then◌else◌, nat_eq, refl, sym, ◌∙◌, ap, arith, append-nil, ◌*◌, suc, true≢false}
+use Rattle.std.proofs.Common.{◌≡◌, ◌≤◌, ◌+◌, ℕ, Bool, true, false, List, [], ◌∷◌, ◌++◌, length, None, if◌then◌else◌, refl, sym, ◌∙◌, ap, arith, append-nil, ◌*◌, suc, true≢false}
 use Rattle.std.proofs.lemmas.List.{length-append}
 use Rattle.std.proofs.lemmas.List.Concat.{flat_map-append}
 use Rattle.fibs_lines.specs.Lines.{ReadLine}
 use Rattle.fibs_fields.specs.Board.{BoardFields}
 use Rattle.fibs_messages.specs.Flags.{autoboard, moreboards}
-use Rattle.fibs_messages.specs.Line.{ReadingValue, numbered_line, board_line, text_line, malformed_line}
+use Rattle.fibs_messages.specs.Line.{ReadingValue}
 use Rattle.fibs_messages.specs.Message.{MessageValue}
 use Rattle.fibs_position.specs.GoodBoard.{good}
 use Rattle.fibs_position.specs.DecisionValue.{roll}
@@ -13,7 +13,8 @@ use Rattle.fibs_position.specs.DirectionOf.{direction_of}
 use Rattle.fibs_position.specs.declared.direction.Direction.{Direction}
 use Rattle.fibs_commands.specs.FirstCommands.{style_text, autoboard_text, moreboards_text, board_text}
 use Rattle.fibs_commands.specs.Commands.{command_of}
-use Rattle.fibs_session.specs.History.Hearing.{Heard, heard, flags_of, initial_commands, line_reading, nothing_heard, shows_board}
+use Rattle.fibs_session.specs.History.Hearing.{Heard, heard, flags_of, initial_commands, line_reading, nothing_heard, shows_board, heard_says, says}
+use Rattle.fibs_game.specs.Game.{Says, welcomes, informs, shows, says_nothing}
 use Rattle.fibs_session.specs.History.Log.{Entry, Welcomed, Informed, Shown, Sent}
 use Rattle.fibs_session.specs.History.Machine.{Talk, stays, hears, hears_all, heard_by, is_online, with_bytes, gained, on_wire, wire_of, ordered_now}
 use Rattle.fibs_session.specs.History.Owing.{owed_on, owed, PiecesTakeFromWhatIsOwed, entries_owed, PiecesTakeFromTheEntriesOwed}
@@ -181,15 +182,17 @@ shown_takes c log b true f =
     two true h = omega (arith)
     two false h = absurd (true≢false (sym h))
 
+-- what any line says takes from what is owed
+says_takes : (c : ℕ) (log : List Entry) (x : Says BoardFields MessageValue) → Takes c log (heard_says c log x)
+says_takes c log welcomes = welcome_takes c log
+says_takes c log (informs m) = info_takes c log m
+says_takes c log (shows b) = if_takes (good b) c log
+    _ _ (shown_takes c log b (is_due c (log ++ Shown c b ∷ []) b) (due_stands c log b)) (nothing_takes c log)
+says_takes c log says_nothing = nothing_takes c log
+
 -- the answer to any line takes from what is owed
 heard_takes : (c : ℕ) (log : List Entry) (r : ReadingValue) → Takes c log (heard c log r)
-heard_takes c log (numbered_line m) =
-    if_takes (nat_eq m.number 1) c log
-    _ _ (welcome_takes c log) (if_takes (nat_eq m.number 2) c log _ _ (info_takes c log m) (nothing_takes c log))
-heard_takes c log (board_line b) = if_takes (good b) c log
-    _ _ (shown_takes c log b (is_due c (log ++ Shown c b ∷ []) b) (due_stands c log b)) (nothing_takes c log)
-heard_takes c log (text_line text) = nothing_takes c log
-heard_takes c log (malformed_line number k f) = nothing_takes c log
+heard_takes c log r = says_takes c log (says r)
 
 -- one line, with more to come
 

@@ -5,6 +5,7 @@ use Rattle.fibs_position.specs.DecisionValue.{DecisionValue as Decision}
 use Rattle.fibs_session.specs.History.Log.{Entry, Opened, Shown, Sent, Lost}
 use Rattle.fibs_session.specs.History.Words.{one_if, is_empty, last, each, open_from, shown_by, sent_by, shown, sent, is_spent, IsLikeness}
 use Rattle.fibs_session.proofs.History.Lists.{same_number, one_of_true, snoc_not_empty, each_append, each_last, map_more, map_no_more}
+use Rattle.fibs_position.specs.GamePart.{same_game}
 
 -- of two histories in a row the second begins with the connection that the first leaves open
 pub open_append : (o : ℕ) (xs ys : List Entry) → open_from o (xs ++ ys) ≡ open_from (open_from o xs) ys
@@ -17,21 +18,21 @@ open_append o (e ∷ xs) ys = open_append o xs ys
 abbrev pub pick : Bool → Bool → Bool → Bool → Bool
 pick t a s rest = if t && a then s else rest
 
-module _ (like : Board → Board → Bool) (c : ℕ) where
+module _ (c : ℕ) where
   -- a history in which no board is shown on a connection has no spent stretch
-  pub spent_none : (ys : List Entry) → shown c ys ≡ [] → is_spent like c ys ≡ false
+  pub spent_none : (ys : List Entry) → shown c ys ≡ [] → is_spent c ys ≡ false
   spent_none [] h = refl
   spent_none (Shown d b ∷ later) h = step (nat_eq d c) h (spent_none later)
     where
-      step : (t : Bool) → one_if t b ++ shown c later ≡ [] → (shown c later ≡ [] → is_spent like c later ≡ false)
-          → pick t (each (like b) (shown c later)) (not (is_empty (sent c later))) (is_spent like c later) ≡ false
+      step : (t : Bool) → one_if t b ++ shown c later ≡ [] → (shown c later ≡ [] → is_spent c later ≡ false)
+          → pick t (each (same_game b) (shown c later)) (not (is_empty (sent c later))) (is_spent c later) ≡ false
       step true h k = cc
       step false h k = k h
   spent_none (e ∷ later) h = spent_none later h
 
   -- entries that show no board and send nothing leave the stretch as it is
   pub spent_quiet : (xs ys : List Entry)
-      → shown c ys ≡ [] → sent c ys ≡ [] → is_spent like c (xs ++ ys) ≡ is_spent like c xs
+      → shown c ys ≡ [] → sent c ys ≡ [] → is_spent c (xs ++ ys) ≡ is_spent c xs
   spent_quiet [] ys h k = spent_none ys h
   spent_quiet (Shown d b ∷ later) ys h k =
       let p : shown c (later ++ ys) ≡ shown c later = map_no_more (shown_by c) later ys h in
@@ -42,7 +43,7 @@ module _ (like : Board → Board → Bool) (c : ℕ) where
 
   -- one more Sent, if a board was shown
   pub spent_sent : (xs : List Entry) (b : Board) (m : Decision)
-      → is_empty (shown c xs) ≡ false → is_spent like c (xs ++ Sent c b m ∷ []) ≡ true
+      → is_empty (shown c xs) ≡ false → is_spent c (xs ++ Sent c b m ∷ []) ≡ true
   spent_sent [] b m h = absurd (true≢false h)
   spent_sent (Shown d b0 ∷ later) b m h =
       let one : sent c (Sent c b m ∷ []) ≡ (b, m) ∷ [] =
@@ -54,25 +55,25 @@ module _ (like : Board → Board → Bool) (c : ℕ) where
       let s : not (is_empty (sent c (later ++ Sent c b m ∷ []))) ≡ true =
       ap not (ap is_empty q ∙ snoc_not_empty (sent c later) (b, m)) in
       let g = step (nat_eq d c) (shown c later) h (spent_sent later b m) in
-      ap (λ l. pick (nat_eq d c) (each (like b0) l)
-      (not (is_empty (sent c (later ++ Sent c b m ∷ [])))) (is_spent like c (later ++ Sent c b m ∷ []))) p
+      ap (λ l. pick (nat_eq d c) (each (same_game b0) l)
+      (not (is_empty (sent c (later ++ Sent c b m ∷ [])))) (is_spent c (later ++ Sent c b m ∷ []))) p
       ∙ ap
-      (λ l. pick (nat_eq d c) (each (like b0) (shown c later)) l (is_spent like c (later ++ Sent c b m ∷ []))) s ∙ g
+      (λ l. pick (nat_eq d c) (each (same_game b0) (shown c later)) l (is_spent c (later ++ Sent c b m ∷ []))) s ∙ g
     where
       step : (t : Bool) (l : List Board) → is_empty (one_if t b0 ++ l) ≡ false
-          → (is_empty l ≡ false → is_spent like c (later ++ Sent c b m ∷ []) ≡ true)
-          → pick t (each (like b0) l) true (is_spent like c (later ++ Sent c b m ∷ [])) ≡ true
+          → (is_empty l ≡ false → is_spent c (later ++ Sent c b m ∷ []) ≡ true)
+          → pick t (each (same_game b0) l) true (is_spent c (later ++ Sent c b m ∷ [])) ≡ true
       step true [] h k = refl
-      step true (x ∷ l) h k = two (each (like b0) (x ∷ l)) (k refl)
+      step true (x ∷ l) h k = two (each (same_game b0) (x ∷ l)) (k refl)
         where
-          two : (a : Bool) → is_spent like c (later ++ Sent c b m ∷ []) ≡ true
-              → pick true a true (is_spent like c (later ++ Sent c b m ∷ [])) ≡ true
+          two : (a : Bool) → is_spent c (later ++ Sent c b m ∷ []) ≡ true
+              → pick true a true (is_spent c (later ++ Sent c b m ∷ [])) ≡ true
           two true k = refl
           two false k = k
       step false l h k = k h
   spent_sent (e ∷ later) b m h = spent_sent later b m h
 
-module _ (like : Board → Board → Bool) (law : IsLikeness like) (c : ℕ) where
+module _ (law : IsLikeness same_game) (c : ℕ) where
   -- the entry of a board that is shown gives that board
   one_shown : (b : Board) → shown c (Shown c b ∷ []) ≡ b ∷ []
   one_shown b = ap (λ l. l ++ []) (one_of_true (nat_eq c c) b (same_number c))
@@ -82,7 +83,7 @@ module _ (like : Board → Board → Bool) (law : IsLikeness like) (c : ℕ) whe
   shown_more xs b = map_more (shown_by c) xs (Shown c b ∷ []) (b ∷ []) (one_shown b)
 
   -- the first board that is shown
-  pub spent_first : (xs : List Entry) (b : Board) → shown c xs ≡ [] → is_spent like c (xs ++ Shown c b ∷ []) ≡ false
+  pub spent_first : (xs : List Entry) (b : Board) → shown c xs ≡ [] → is_spent c (xs ++ Shown c b ∷ []) ≡ false
   spent_first [] b h = two (nat_eq c c)
     where
       two : (t : Bool) → pick t true false false ≡ false
@@ -91,28 +92,28 @@ module _ (like : Board → Board → Bool) (law : IsLikeness like) (c : ℕ) whe
   spent_first (Shown d b0 ∷ later) b h = step (nat_eq d c) h (spent_first later b)
     where
       step : (t : Bool)
-          → one_if t b0 ++ shown c later ≡ [] → (shown c later ≡ [] → is_spent like c (later ++ Shown c b ∷ []) ≡ false)
-          → pick t (each (like b0) (shown c (later ++ Shown c b ∷ [])))
-          (not (is_empty (sent c (later ++ Shown c b ∷ [])))) (is_spent like c (later ++ Shown c b ∷ [])) ≡ false
+          → one_if t b0 ++ shown c later ≡ [] → (shown c later ≡ [] → is_spent c (later ++ Shown c b ∷ []) ≡ false)
+          → pick t (each (same_game b0) (shown c (later ++ Shown c b ∷ [])))
+          (not (is_empty (sent c (later ++ Shown c b ∷ [])))) (is_spent c (later ++ Shown c b ∷ [])) ≡ false
       step true h k = cc
       step false h k = k h
   spent_first (e ∷ later) b h = spent_first later b h
 
   -- one more board like the last
   pub spent_same : (xs : List Entry) (v b : Board)
-      → last (shown c xs) ≡ Some v → like v b ≡ true → is_spent like c (xs ++ Shown c b ∷ []) ≡ is_spent like c xs
+      → last (shown c xs) ≡ Some v → same_game v b ≡ true → is_spent c (xs ++ Shown c b ∷ []) ≡ is_spent c xs
   spent_same [] v b h k = cc
   spent_same (Shown d b0 ∷ later) v b h k =
       let q : sent c (later ++ Shown c b ∷ []) ≡ sent c later = map_no_more (sent_by c) later (Shown c b ∷ []) refl in
-      let e : each (like b0) (shown c (later ++ Shown c b ∷ []))
-      ≡ (each (like b0) (shown c later) && (like b0 b && true)) =
-      ap (each (like b0)) (shown_more later b) ∙ each_append (like b0) (shown c later) (b ∷ []) in
+      let e : each (same_game b0) (shown c (later ++ Shown c b ∷ []))
+      ≡ (each (same_game b0) (shown c later) && (same_game b0 b && true)) =
+      ap (each (same_game b0)) (shown_more later b) ∙ each_append (same_game b0) (shown c later) (b ∷ []) in
       let s = step (nat_eq d c) (shown c later) (not (is_empty (sent c later)))
-      (is_spent like c (later ++ Shown c b ∷ [])) (is_spent like c later) h (λ g. spent_same later v b g k) in
+      (is_spent c (later ++ Shown c b ∷ [])) (is_spent c later) h (λ g. spent_same later v b g k) in
       ap (λ l. pick (nat_eq d c)
-      l (not (is_empty (sent c (later ++ Shown c b ∷ [])))) (is_spent like c (later ++ Shown c b ∷ []))) e
-      ∙ ap (λ l. pick (nat_eq d c) (each (like b0) (shown c later) && (like b0 b && true)) (not (is_empty l))
-      (is_spent like c (later ++ Shown c b ∷ []))) q ∙ s
+      l (not (is_empty (sent c (later ++ Shown c b ∷ [])))) (is_spent c (later ++ Shown c b ∷ []))) e
+      ∙ ap (λ l. pick (nat_eq d c) (each (same_game b0) (shown c later) && (same_game b0 b && true)) (not (is_empty l))
+      (is_spent c (later ++ Shown c b ∷ []))) q ∙ s
     where
       three : (bs : List Board) (a a' s x y : Bool)
           → (a ≡ true → a' ≡ true) → (a ≡ false → x ≡ y) → pick true (a && (a' && true)) s x ≡ pick true a s y
@@ -121,31 +122,31 @@ module _ (like : Board → Board → Bool) (law : IsLikeness like) (c : ℕ) whe
 
       step : (t : Bool) (bs : List Board) (s x y : Bool)
           → last (one_if t b0 ++ bs) ≡ Some v → (last bs ≡ Some v → x ≡ y)
-          → pick t (each (like b0) bs && (like b0 b && true)) s x ≡ pick t (each (like b0) bs) s y
+          → pick t (each (same_game b0) bs && (same_game b0 b && true)) s x ≡ pick t (each (same_game b0) bs) s y
       step true [] s x y h g =
           let m : b0 ≡ v = cc in
-          let n : like b0 b ≡ true = rw m k in
-          three [] true (like b0 b) s x y (λ z. n) (λ z. absurd (true≢false z))
+          let n : same_game b0 b ≡ true = rw m k in
+          three [] true (same_game b0 b) s x y (λ z. n) (λ z. absurd (true≢false z))
       step true (a ∷ bs) s x y h g =
-          three bs (each (like b0) (a ∷ bs)) (like b0 b)
-          s x y (λ z. law.like_on b0 v b (each_last (like b0) a bs v z h) k) (λ z. g h)
+          three bs (each (same_game b0) (a ∷ bs)) (same_game b0 b)
+          s x y (λ z. law.like_on b0 v b (each_last (same_game b0) a bs v z h) k) (λ z. g h)
       step false bs s x y h g = g h
   spent_same (e ∷ later) v b h k = spent_same later v b h k
 
   -- one more board unlike the last
   pub spent_other : (xs : List Entry) (v b : Board)
-      → last (shown c xs) ≡ Some v → like v b ≡ false → is_spent like c (xs ++ Shown c b ∷ []) ≡ false
+      → last (shown c xs) ≡ Some v → same_game v b ≡ false → is_spent c (xs ++ Shown c b ∷ []) ≡ false
   spent_other [] v b h k = cc
   spent_other (Shown d b0 ∷ later) v b h k =
-      let e : each (like b0) (shown c (later ++ Shown c b ∷ []))
-      ≡ (each (like b0) (shown c later) && (like b0 b && true)) =
-      ap (each (like b0)) (shown_more later b) ∙ each_append (like b0) (shown c later) (b ∷ []) in
+      let e : each (same_game b0) (shown c (later ++ Shown c b ∷ []))
+      ≡ (each (same_game b0) (shown c later) && (same_game b0 b && true)) =
+      ap (each (same_game b0)) (shown_more later b) ∙ each_append (same_game b0) (shown c later) (b ∷ []) in
       let s = step (nat_eq d c) (shown c later) (not (is_empty (sent c (later ++ Shown c b ∷ []))))
-      (is_spent like c (later ++ Shown c b ∷ [])) h (λ g. spent_other later v b g k) (spent_first later b) in
+      (is_spent c (later ++ Shown c b ∷ [])) h (λ g. spent_other later v b g k) (spent_first later b) in
       ap (λ l. pick (nat_eq d c)
-      l (not (is_empty (sent c (later ++ Shown c b ∷ [])))) (is_spent like c (later ++ Shown c b ∷ []))) e ∙ s
+      l (not (is_empty (sent c (later ++ Shown c b ∷ [])))) (is_spent c (later ++ Shown c b ∷ []))) e ∙ s
     where
-      unlike : like b0 v ≡ true → like b0 b ≡ true → ⊥
+      unlike : same_game b0 v ≡ true → same_game b0 b ≡ true → ⊥
       unlike p q = true≢false (sym (law.like_on v b0 b (law.like_back b0 v p) q) ∙ k)
 
       three : (a a' s x : Bool) → (a ≡ true → a' ≡ true → ⊥) → (x ≡ false) → pick true (a && (a' && true)) s x ≡ false
@@ -155,12 +156,13 @@ module _ (like : Board → Board → Bool) (law : IsLikeness like) (c : ℕ) whe
 
       step : (t : Bool) (bs : List Board) (s x : Bool)
           → last (one_if t b0 ++ bs) ≡ Some v → (last bs ≡ Some v → x ≡ false) → (bs ≡ [] → x ≡ false)
-          → pick t (each (like b0) bs && (like b0 b && true)) s x ≡ false
+          → pick t (each (same_game b0) bs && (same_game b0 b && true)) s x ≡ false
       step true [] s x h g f =
           let m : b0 ≡ v = cc in
-          three true (like b0 b) s x (λ z p. unlike (rw (← m) (law.like_itself b0)) p) (f refl)
+          three true (same_game b0 b) s x (λ z p. unlike (rw (← m) (law.like_itself b0)) p) (f refl)
       step true (a ∷ bs) s x h g f =
-          three (each (like b0) (a ∷ bs)) (like b0 b) s x (λ z p. unlike (each_last (like b0) a bs v z h) p) (g h)
+          three (each (same_game b0) (a ∷ bs)) (same_game b0 b) s x
+          (λ z p. unlike (each_last (same_game b0) a bs v z h) p) (g h)
       step false bs s x h g f = g h
   spent_other (e ∷ later) v b h k = spent_other later v b h k
 
@@ -175,20 +177,20 @@ module _ (c : ℕ) where
   sent_more xs b m = map_more (sent_by c) xs (Sent c b m ∷ []) ((b, m) ∷ []) (one_sent b m)
 
 -- if the stretch is spent something was sent
-pub spent_has_sent : (like : Board → Board → Bool) (c : ℕ) (xs : List Entry)
-    → is_spent like c xs ≡ true → is_empty (sent c xs) ≡ false
-spent_has_sent like c [] h = absurd (true≢false (sym h))
-spent_has_sent like c (Shown d b ∷ later) h =
-    step (nat_eq d c && each (like b) (shown c later)) (is_empty (sent c later)) h (spent_has_sent like c later)
+pub spent_has_sent : (c : ℕ) (xs : List Entry)
+    → is_spent c xs ≡ true → is_empty (sent c xs) ≡ false
+spent_has_sent c [] h = absurd (true≢false (sym h))
+spent_has_sent c (Shown d b ∷ later) h =
+    step (nat_eq d c && each (same_game b) (shown c later)) (is_empty (sent c later)) h (spent_has_sent c later)
   where
     step : (t e : Bool)
-        → (if t then not e else is_spent like c later) ≡ true → (is_spent like c later ≡ true → e ≡ false) → e ≡ false
+        → (if t then not e else is_spent c later) ≡ true → (is_spent c later ≡ true → e ≡ false) → e ≡ false
     step true true h k = absurd (true≢false (sym h))
     step true false h k = refl
     step false e h k = k h
-spent_has_sent like c (Sent d b m ∷ later) h = step (nat_eq d c) (spent_has_sent like c later h)
+spent_has_sent c (Sent d b m ∷ later) h = step (nat_eq d c) (spent_has_sent c later h)
   where
     step : (t : Bool) → is_empty (sent c later) ≡ false → is_empty (one_if t (b, m) ++ sent c later) ≡ false
     step true k = refl
     step false k = k
-spent_has_sent like c (e ∷ later) h = spent_has_sent like c later h
+spent_has_sent c (e ∷ later) h = spent_has_sent c later h

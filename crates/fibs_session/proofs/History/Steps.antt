@@ -13,17 +13,17 @@ use Rattle.fibs_position.specs.GamePart.{same_game}
 use Rattle.fibs_position.specs.Phases.{phase_of}
 use Rattle.fibs_commands.specs.PlainCommands.{PlainValue, automove_off, greedy_off, board_again, who, say, tell, shout, whisper, kibitz, leave_message, invite, invite_to, join, join_with, toggle_ready, bye, plain_of}
 use Rattle.fibs_commands.specs.FirstCommands.{style_text}
-use Rattle.fibs_session.specs.declared.histories.refusal.Refusal.{Refusal}
-use Rattle.fibs_session.specs.declared.histories.refusal.Refusal.TheVariants.{Offline, AlreadyOrdered, NotOrdered}
+use Rattle.fibs_game.specs.declared.refusal.Refusal.{Refusal}
+use Rattle.fibs_game.specs.declared.refusal.Refusal.TheVariants.{Offline, AlreadyOrdered, NotOrdered}
 use Rattle.fibs_session.specs.History.Log.{Entry, Shown, Ordered, Withdrawn}
 use Rattle.fibs_session.specs.History.Words.{is_empty, last, open_now, shown, welcomed, informed, IsLikeness, answer, is_ordered, orders_by, is_given}
 use Rattle.fibs_session.specs.History.Hearing.{Heard, heard, flags_of, initial_commands, shows_board}
 use Rattle.fibs_session.specs.declared.histories.refusal.PlainRefusal.{PlainRefusal}
-use Rattle.fibs_session.specs.History.Allows.{allows}
 use Rattle.fibs_session.specs.History.Machine.{Talk, noted, answer_now, clicks, clicks_by, decides_on, flag_is_on, is_online, heard_by, may_send, plain_refusal, plains, sends_plain, ordered_now, order_refusal, withdraw_refusal, notes_if, orders_on, withdraws}
 use Rattle.fibs_session.specs.History.Orders.{is_due, is_to_roll}
 use Rattle.fibs_session.specs.Calls.SessionValue.{SessionValue, At}
 use Rattle.fibs_session.specs.Calls.FieldSteps.{HeardFields, heard_fields, may_send_of, plain_refusal_of, with_plain, with_board, confirmed_of, answer_of, with_ask, due_of, board_shown, order_refusal_of, withdraw_refusal_of, with_order}
+use Rattle.fibs_session.proofs.History.Joins.{message_heard}
 use Rattle.fibs_session.proofs.History.Lists.{other_number, map_no_more}
 use Rattle.fibs_session.proofs.History.Texts.{NoToggles, no_texts, if_texts, not_gone, gone_now, style_texts, initial_texts}
 use Rattle.fibs_session.proofs.History.Words.{yes, some_last}
@@ -47,6 +47,11 @@ choose : (t : Talk) (b : Bool) (h h' : HeardFields) (g g' : Heard)
 choose t true h h' g g' f f' = f refl
 choose t false h h' g g' f f' = f' refl
 
+-- three tests in another grouping
+regroup : (a b c : Bool) → (a && (b && c)) ≡ ((a && b) && c)
+regroup true b c = refl
+regroup false b c = refl
+
 -- what an order waits for, with the answer to a click on Roll
 abbrev due_without_order : Option Refusal → Board → Bool
 due_without_order a b = int_eq (field_of b 39) (pos 0) && (is_to_roll (phase_of b) && is_none a)
@@ -66,7 +71,8 @@ module _ (v : SessionValue) (t : Talk) (at : At v t) (on : v.online ≡ true) (l
       ≡ (if is_empty (informed c t.log) then initial_commands m else []) =
       flipped (is_some v.flags) (is_empty (informed c t.log))
       [] (initial_commands m) (ap is_some at.has_flags ∙ some_last (informed c t.log)) in
-      choose t (nat_eq m.number 1) _ _ _ _
+      subst (HeardIs t (heard_fields v (numbered_line m))) (sym (message_heard c t.log m))
+      (choose t (nat_eq m.number 1) _ _ _ _
       (λ _. record {
         after = at_welcomed v t at on _ (if_texts (is_empty (welcomed c t.log)) _ _ style_texts no_texts);
         send = s;
@@ -81,7 +87,7 @@ module _ (v : SessionValue) (t : Talk) (at : At v t) (on : v.online ≡ true) (l
         confirmed = refl;
         rolled = refl;
       })
-      (λ _. record { after = unheard_law v t at; send = refl; confirmed = refl; rolled = refl }))
+      (λ _. record { after = unheard_law v t at; send = refl; confirmed = refl; rolled = refl })))
 
   -- the order is due by the fields if it is by the history
   due_law : (b : Board) → due_of (with_board v b) b ≡ is_due c (t.log ++ Shown c b ∷ []) b
@@ -90,10 +96,12 @@ module _ (v : SessionValue) (t : Talk) (at : At v t) (on : v.online ≡ true) (l
       let es : List Entry = Shown c b ∷ [] in
       let o : v.ordered ≡ is_ordered c (t.log ++ es) =
       at.has_order ∙ ap (λ l. is_given (last l)) (sym (map_no_more (orders_by c) t.log es refl)) in
-      let a : answer_of (with_board v b) roll ≡ answer same_game allows (t.log ++ es) roll =
+      let a : answer_of (with_board v b) roll ≡ answer (t.log ++ es) roll =
       answer_law (with_board v b) (noted t es []) (at_shown v t at on likeness b) roll in
       ap (λ x. x && due_without_order (answer_of (with_board v b) roll) b) o
       ∙ ap (λ x. is_ordered c (t.log ++ es) && due_without_order x b) a
+      ∙ ap (λ x. is_ordered c (t.log ++ es) && x)
+      (regroup (int_eq (field_of b 39) (pos 0)) (is_to_roll (phase_of b)) (is_none (answer (t.log ++ es) roll)))
 
   -- a board that is shown does to the fields what it does to the machine, with or without a roll
   shown_law : (b : Board) (rolls : Bool)
@@ -147,7 +155,7 @@ module _ (v : SessionValue) (t : Talk) (at : At v t) where
       → (b : Board) × (v.shown ≡ Some b)
       × At (with_ask v d v.shown) (clicks t d).talk × ((clicks t d).send ≡ command_of (direction_of b) d ∷ [])
   sent_law d h =
-      let y = yes same_game allows t.log d (sym (answer_law v t at d) ∙ h) in
+      let y = yes t.log d (sym (answer_law v t at d) ∙ h) in
       let ob : v.shown ≡ Some y.on = at.on_board ∙ ap (λ n. last (shown n t.log)) (sym at.is_open) ∙ y.is_last in
       let on : v.online ≡ true = online_law v t at ∙ ap not (positive (open_now t.log) y.some) in
       let step : clicks t d ≡ decides_on t d (Some y.on) =

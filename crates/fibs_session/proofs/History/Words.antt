@@ -2,9 +2,8 @@
 use Rattle.std.proofs.Common.{◌≡◌, ◌<◌, ◌≤◌, ℕ, zero, suc, Bool, true, false, not, ◌||◌, List, [], ◌∷◌, ◌++◌, length, Option, Some, None, is_some, if◌then◌else◌, nat_eq, flat_map, refl, sym, ◌∙◌, ap, subst, arith, true≢false}
 use Rattle.fibs_fields.specs.Board.{BoardFields as Board}
 use Rattle.fibs_position.specs.DecisionValue.{DecisionValue as Decision}
-use Rattle.fibs_position.specs.GamePart.{same_game}
-use Rattle.fibs_session.specs.declared.histories.refusal.Refusal.{Refusal}
-use Rattle.fibs_session.specs.declared.histories.refusal.Refusal.TheVariants.{Offline, NotReady, ServerPlays}
+use Rattle.fibs_game.specs.declared.refusal.Refusal.TheVariants.{Offline, NotReady, ServerPlays}
+use Rattle.fibs_session.specs.History.Allows.{allows}
 use Rattle.fibs_session.specs.History.Log.{Entry, Flags, Opened, Welcomed, Informed, Shown, Sent, Ordered, Withdrawn}
 use Rattle.fibs_session.specs.History.Words.{one_if, is_empty, last, open_now, opened_by, connections, shown, sent, welcomed, informed, welcomed_by, informed_by, shown_by, sent_by, orders_by, is_spent, unconfirmed, answer, if_board, plays_itself}
 use Rattle.fibs_session.specs.History.Numbering.{Quiet, Numbered}
@@ -118,16 +117,16 @@ numbered_opened log n =
 
 -- what is quiet changes nothing of the stretch
 pub unconfirmed_quiet : (c : ℕ) (log es : List Entry)
-    → shown c es ≡ [] → sent c es ≡ [] → unconfirmed same_game c (log ++ es) ≡ unconfirmed same_game c log
+    → shown c es ≡ [] → sent c es ≡ [] → unconfirmed c (log ++ es) ≡ unconfirmed c log
 unconfirmed_quiet c log es h k =
-    let s = spent_quiet same_game c log es h k in
+    let s = spent_quiet c log es h k in
     let m : sent c (log ++ es) ≡ sent c log = map_no_more (sent_by c) log es k in
     ap (λ z. if z then last (sent c (log ++ es)) else None) s
-    ∙ ap (λ l. if is_spent same_game c log then last l else None) m
+    ∙ ap (λ l. if is_spent c log then last l else None) m
 
 -- on a connection on which no board was shown nothing is unconfirmed
-pub unconfirmed_none : (c : ℕ) (log : List Entry) → shown c log ≡ [] → unconfirmed same_game c log ≡ None
-unconfirmed_none c log h = rw (spent_none same_game c log h) refl
+pub unconfirmed_none : (c : ℕ) (log : List Entry) → shown c log ≡ [] → unconfirmed c log ≡ None
+unconfirmed_none c log h = rw (spent_none c log h) refl
 
 -- a list has a last element exactly if it is not empty
 pub some_last : {A : Type 0} (xs : List A) → is_some (last xs) ≡ not (is_empty xs)
@@ -136,8 +135,8 @@ some_last (x ∷ []) = refl
 some_last (x ∷ y ∷ ys) = some_last (y ∷ ys)
 
 -- what is unconfirmed is something if the stretch is spent
-pub some_spent : (c : ℕ) (log : List Entry) → is_some (unconfirmed same_game c log) ≡ is_spent same_game c log
-some_spent c log = go (is_spent same_game c log) (spent_has_sent same_game c log)
+pub some_spent : (c : ℕ) (log : List Entry) → is_some (unconfirmed c log) ≡ is_spent c log
+some_spent c log = go (is_spent c log) (spent_has_sent c log)
   where
     go : (z : Bool) → (z ≡ true → is_empty (sent c log) ≡ false) → is_some (if z then last (sent c log) else None) ≡ z
     go true f = some_last (sent c log) ∙ ap not (f refl)
@@ -153,23 +152,22 @@ none_last (x ∷ xs) h = absurd (go x xs h)
     go x (y ∷ ys) h = go y ys h
 
 -- what the answer yes to a click says
-pub record Yes (like : Board → Board → Bool) (allows : Board → Decision → Option Refusal)
-    (log : List Entry) (d : Decision) : Type 0 where
+pub record Yes (log : List Entry) (d : Decision) : Type 0 where
   pub some : 0 < open_now log
-  pub fresh : is_spent like (open_now log) log ≡ false
+  pub fresh : is_spent (open_now log) log ≡ false
   pub on : Board
   pub is_last : last (shown (open_now log) log) ≡ Some on
   pub allowed : allows on d ≡ None
 
 -- a click that nothing refuses met each condition of a yes
-pub yes : (like : Board → Board → Bool) (allows : Board → Decision → Option Refusal) (log : List Entry) (d : Decision)
-    → answer like allows log d ≡ None → Yes like allows log d
-yes like allows log d h =
+pub yes : (log : List Entry) (d : Decision)
+    → answer log d ≡ None → Yes log d
+yes log d h =
     one (nat_eq (open_now log) 0) (is_empty (welcomed (open_now log) log) || is_empty (informed (open_now log) log))
     (plays_itself (last (informed (open_now log) log))) refl h
   where
-    board : (s : Bool) (o : Option Board) → is_spent like (open_now log) log ≡ s
-        → last (shown (open_now log) log) ≡ o → 0 < open_now log → if_board allows s d o ≡ None → Yes like allows log d
+    board : (s : Bool) (o : Option Board) → is_spent (open_now log) log ≡ s
+        → last (shown (open_now log) log) ≡ o → 0 < open_now log → if_board s d o ≡ None → Yes log d
     board s None e f n h = cc
     board true (Some b) e f n h = cc
     board false (Some b) e f n h = record { some = n; fresh = e; on = b; is_last = f; allowed = h }
@@ -180,8 +178,8 @@ yes like allows log d h =
 
     one : (x y z : Bool) → nat_eq (open_now log) 0 ≡ x
         → (if x then Some Offline else (if y then Some NotReady else (if z then Some ServerPlays
-        else if_board allows (is_spent like (open_now log) log) d (last (shown (open_now log) log)))))
-        ≡ None → Yes like allows log d
+        else if_board (is_spent (open_now log) log) d (last (shown (open_now log) log)))))
+        ≡ None → Yes log d
     one true y z e h = cc
     one false true z e h = cc
     one false false true e h = cc

@@ -12,13 +12,12 @@ use Rattle.fibs_position.specs.GamePart.{same_game}
 use Rattle.fibs_position.specs.Phases.{phase_of}
 use Rattle.fibs_commands.specs.FirstCommands.{style_text}
 use Rattle.fibs_commands.specs.PlainCommands.{PlainValue, automove_off, greedy_off, plain_fault_of, plain_of}
-use Rattle.fibs_session.specs.declared.histories.refusal.Refusal.{Refusal}
-use Rattle.fibs_session.specs.declared.histories.refusal.Refusal.TheVariants.{AlreadyOpen, Offline, NotReady, ServerPlays, AlreadyOrdered, NotOrdered}
+use Rattle.fibs_game.specs.declared.refusal.Refusal.{Refusal}
+use Rattle.fibs_game.specs.declared.refusal.Refusal.TheVariants.{AlreadyOpen, Offline, NotReady, ServerPlays, AlreadyOrdered, NotOrdered}
 use Rattle.fibs_session.specs.declared.histories.refusal.PlainRefusal.{PlainRefusal}
 use Rattle.fibs_session.specs.declared.histories.refusal.PlainRefusal.TheVariants as P
 use Rattle.fibs_session.specs.History.Words.{Ask, one_if, if_board, plays_itself}
 use Rattle.fibs_session.specs.History.Hearing.{flags_of, initial_commands}
-use Rattle.fibs_session.specs.History.Allows.{allows}
 use Rattle.fibs_session.specs.History.Orders.{is_to_roll}
 use Rattle.fibs_session.specs.History.Machine.{flag_is_on}
 use Rattle.fibs_session.specs.Calls.SessionValue.{SessionValue}
@@ -104,7 +103,7 @@ answer_of v d =
     if not v.online then Some Offline
     else (if not v.welcomed || not (is_some v.flags) then Some NotReady
     else (if plays_itself v.flags then Some ServerPlays
-    else if_board allows (is_some v.waiting) d v.shown))
+    else if_board (is_some v.waiting) d v.shown))
 
 -- whether a standing order is due for the session that shows the board
 unfoldable pub due_of : SessionValue → BoardFields → Bool

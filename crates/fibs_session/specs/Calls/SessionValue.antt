@@ -2,7 +2,6 @@
 use Rattle.std.specs.Prelude.{◌≡◌, ℕ, Bool, false, not, List, Option, nat_eq}
 use Rattle.std.specs.Str.{bytes_eq}
 use Rattle.fibs_fields.specs.Board.{BoardFields}
-use Rattle.fibs_position.specs.GamePart.{same_game}
 use Rattle.fibs_commands.specs.PlainCommands.{automove_off, greedy_off, plain_of}
 use Rattle.fibs_session.specs.History.Log.{Flags}
 use Rattle.fibs_session.specs.History.Words.{Ask, is_empty, last, open_now, shown, welcomed, informed, is_ordered, unconfirmed}
@@ -38,6 +37,6 @@ pub record At (v : SessionValue) (t : Talk) : Type 0 where
   pub automove_gone : v.automove_sent ≡ was_sent (plain_of automove_off) t.commands
   pub greedy_gone : v.greedy_sent ≡ was_sent (plain_of greedy_off) t.commands
   pub on_board : v.shown ≡ last (shown conn t.log)
-  pub not_confirmed : v.waiting ≡ unconfirmed same_game conn t.log
+  pub not_confirmed : v.waiting ≡ unconfirmed conn t.log
   pub has_order : v.ordered ≡ is_ordered conn t.log
   pub numbered : Numbered t.log

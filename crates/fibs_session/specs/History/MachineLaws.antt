@@ -1,12 +1,13 @@
 -- Laws of the machine, for callers.
 use Rattle.std.specs.Prelude.{◌≡◌, ℕ, List, [], ◌++◌, flat_map}
-use Rattle.fibs_fields.specs.Board.{BoardFields}
+use Rattle.fibs_game.specs.MachineLaws as A
 use Rattle.fibs_messages.specs.Line.{ReadingValue}
-use Rattle.fibs_position.specs.DecisionValue.{DecisionValue}
+use Rattle.fibs_session.specs.Fibs.{fibs}
 use Rattle.fibs_session.specs.History.Hearing.{heard}
-use Rattle.fibs_session.specs.History.Log.{Entry, LoggedIn, Took, Undone}
+use Rattle.fibs_session.specs.History.Log.{Entry}
 use Rattle.fibs_session.specs.History.Words.{open_from, opened_by}
 use Rattle.fibs_session.specs.History.Machine.{Talk, Piece, step, stays, then_also}
+pub use Rattle.fibs_game.specs.MachineLaws.{logs_in, takes, undoes}
 
 -- bytes may come in any pieces
 abbrev pub PiecesJoin : Type 0
@@ -25,7 +26,5 @@ LinesOpenNoConnection =
     → (flat_map opened_by (heard c log r).entries ≡ []) × ((o : ℕ) → open_from o (heard c log r).entries ≡ o)
 
 -- what a server notes
-pub data IsServers : Entry → Type 0 where
-  logs_in : (c : ℕ) → IsServers (LoggedIn c)
-  takes : (c : ℕ) (b : BoardFields) (d : DecisionValue) → IsServers (Took c b d)
-  undoes : (c : ℕ) (b : BoardFields) (d : DecisionValue) → IsServers (Undone c b d)
+abbrev pub IsServers : Entry → Type 0
+IsServers e = A.IsServers fibs e

@@ -1,153 +1,100 @@
--- What a history of entries, the oldest first, says of a connection (the project's own). Each word is of the whole
--- list.
-use Rattle.std.specs.Prelude.{◌≡◌, ℕ, Bool, true, false, not, ◌&&◌, ◌||◌, List, [], ◌∷◌, length, Option, Some, None, if◌then◌else◌, nat_eq, flat_map}
+-- What a history of entries says of a connection, of backgammon (the project's own).
+use Rattle.std.specs.Prelude.{◌≡◌, ℕ, Bool, true, List, Option}
 use Rattle.fibs_fields.specs.Board.{BoardFields as Board}
 use Rattle.fibs_position.specs.DecisionValue.{DecisionValue as Decision}
-use Rattle.fibs_session.specs.declared.histories.refusal.Refusal.{Refusal}
-use Rattle.fibs_session.specs.declared.histories.refusal.Refusal.TheVariants.{Offline, NotReady, ServerPlays, NoBoard, Waiting}
-use Rattle.fibs_session.specs.History.Log.{Entry, Flags, Opened, Welcomed, Informed, Shown, Sent, Took, Lost, Ordered, Withdrawn}
+use Rattle.fibs_game.specs.declared.refusal.Refusal.{Refusal}
+use Rattle.fibs_session.specs.Fibs.{fibs}
+use Rattle.fibs_session.specs.History.Log.{Entry, Flags}
+use Rattle.fibs_game.specs.Words as A
+pub use Rattle.fibs_game.specs.Words.{one_if, is_empty, last, each, is_given, plays_itself}
 
 -- a decision with the board that it is about
 abbrev pub Ask : Type 0
-Ask = Board × Decision
+Ask = A.Ask fibs
 
--- lists
+-- the answer on the board shown last: no board, a stretch that is spent, what the board allows
+abbrev pub if_board : Bool → Decision → Option Board → Option Refusal
+if_board = A.if_board fibs
 
--- a list of one, or the empty one
-abbrev pub one_if : {A : Type 0} → Bool → A → List A
-one_if true x = x ∷ []
-one_if false x = []
-
--- no element
-abbrev pub is_empty : {A : Type 0} → List A → Bool
-is_empty [] = true
-is_empty (x ∷ xs) = false
-
--- the last element
-abbrev pub last : {A : Type 0} → List A → Option A
-last [] = None
-last (x ∷ []) = Some x
-last (x ∷ y ∷ ys) = last (y ∷ ys)
-
--- the test holds of each element
-abbrev pub each : {A : Type 0} → (A → Bool) → List A → Bool
-each p [] = true
-each p (x ∷ xs) = p x && each p xs
-
--- the connection that is open: from its Opened to its Lost; 0 if none is open
-
+-- the connection that is open after more entries
 abbrev pub open_from : ℕ → List Entry → ℕ
-open_from o [] = o
-open_from o (Opened c ∷ later) = open_from c later
-open_from o (Lost c u ∷ later) = open_from 0 later
-open_from o (e ∷ later) = open_from o later
+open_from = A.open_from
 
+-- the connection that is open; 0 if none is open
 abbrev pub open_now : List Entry → ℕ
-open_now log = open_from 0 log
+open_now = A.open_now
 
--- what was noted of a connection, in order
-
+-- the connection that an entry opens
 abbrev pub opened_by : Entry → List ℕ
-opened_by (Opened c) = c ∷ []
-opened_by e = []
+opened_by = A.opened_by
 
+-- the board that an entry shows on a connection
 abbrev pub shown_by : ℕ → Entry → List Board
-shown_by c (Shown d b) = one_if (nat_eq d c) b
-shown_by c e = []
+shown_by = A.shown_by
 
+-- the decision that it sends there
 abbrev pub sent_by : ℕ → Entry → List Ask
-sent_by c (Sent d b m) = one_if (nat_eq d c) (b, m)
-sent_by c e = []
+sent_by = A.sent_by
 
+-- the decision that takes effect there
 abbrev pub took_by : ℕ → Entry → List Ask
-took_by c (Took d b m) = one_if (nat_eq d c) (b, m)
-took_by c e = []
+took_by = A.took_by
 
+-- a message 1 there
 abbrev pub welcomed_by : ℕ → Entry → List ℕ
-welcomed_by c (Welcomed d) = one_if (nat_eq d c) d
-welcomed_by c e = []
+welcomed_by = A.welcomed_by
 
--- what the server plays by itself
+-- what a message 2 there says that the server plays by itself
 abbrev pub informed_by : ℕ → Entry → List Flags
-informed_by c (Informed d f) = one_if (nat_eq d c) f
-informed_by c e = []
+informed_by = A.informed_by
 
--- whether a standing order was given or withdrawn
+-- whether a standing order was given or withdrawn there
 abbrev pub orders_by : ℕ → Entry → List Bool
-orders_by c (Ordered d) = one_if (nat_eq d c) true
-orders_by c (Withdrawn d) = one_if (nat_eq d c) false
-orders_by c e = []
+orders_by = A.orders_by
 
 -- how many connections were opened: they are numbered from 1
 abbrev pub connections : List Entry → ℕ
-connections log = length (flat_map opened_by log)
+connections = A.connections
 
 -- the boards shown on a connection
 abbrev pub shown : ℕ → List Entry → List Board
-shown c log = flat_map (shown_by c) log
+shown = A.shown
 
 -- the decisions sent on a connection, with their boards
 abbrev pub sent : ℕ → List Entry → List Ask
-sent c log = flat_map (sent_by c) log
+sent = A.sent
 
 -- the decisions that took effect on a connection, with their boards
 abbrev pub took : ℕ → List Entry → List Ask
-took c log = flat_map (took_by c) log
+took = A.took
 
--- the welcomes of a connection
+-- the messages 1 of a connection
 abbrev pub welcomed : ℕ → List Entry → List ℕ
-welcomed c log = flat_map (welcomed_by c) log
+welcomed = A.welcomed
 
--- what was said on a connection of what the server plays by itself
+-- what the messages 2 of a connection say that the server plays by itself
 abbrev pub informed : ℕ → List Entry → List Flags
-informed c log = flat_map (informed_by c) log
+informed = A.informed
 
 -- the standing orders of a connection: given or withdrawn
 abbrev pub orders : ℕ → List Entry → List Bool
-orders c log = flat_map (orders_by c) log
-
--- the last of them is an order that was given
-abbrev pub is_given : Option Bool → Bool
-is_given None = false
-is_given (Some given) = given
+orders = A.orders
 
 -- a standing order is in force on the connection
 abbrev pub is_ordered : ℕ → List Entry → Bool
-is_ordered c log = is_given (last (orders c log))
+is_ordered = A.is_ordered
 
--- A connection's stretch is its last block of boards shown one after another that are alike. Its first Shown is
--- the first after which only boards like it are shown. The stretch is spent if something was sent after that.
-abbrev pub is_spent : (Board → Board → Bool) → ℕ → List Entry → Bool
-is_spent like c [] = false
-is_spent like c (Shown d b ∷ later) =
-    if nat_eq d c && each (like b) (shown c later) then not (is_empty (sent c later)) else is_spent like c later
-is_spent like c (e ∷ later) = is_spent like c later
+-- something was sent since the last block of boards of one game began that were shown one after another
+abbrev pub is_spent : ℕ → List Entry → Bool
+is_spent = A.is_spent
 
--- what is unconfirmed: the last that was sent, if the stretch is spent
-abbrev pub unconfirmed : (Board → Board → Bool) → ℕ → List Entry → Option Ask
-unconfirmed like c log = if is_spent like c log then last (sent c log) else None
-
--- the answer to a click
-
--- on the board shown last: no board, a stretch that is spent, what the board allows
-abbrev pub if_board : (Board → Decision → Option Refusal) → Bool → Decision → Option Board → Option Refusal
-if_board allows spent d None = Some NoBoard
-if_board allows spent d (Some b) = if spent then Some Waiting else allows b d
-
--- the server plays: the flags have a 1
-abbrev pub plays_itself : Option Flags → Bool
-plays_itself None = false
-plays_itself (Some f) = f.automove || f.greedy
+-- what is unconfirmed: the last that was sent, if that is so
+abbrev pub unconfirmed : ℕ → List Entry → Option Ask
+unconfirmed = A.unconfirmed
 
 -- the answer to a decision, by the history: the first refusal that fits; None means yes
-abbrev pub answer : (Board → Board → Bool) → (Board → Decision → Option Refusal) → List Entry → Decision
-    → Option Refusal
-answer like allows log d =
-    let c : ℕ = open_now log in
-    if nat_eq c 0 then Some Offline
-    else (if is_empty (welcomed c log) || is_empty (informed c log) then Some NotReady
-    else (if plays_itself (last (informed c log)) then Some ServerPlays
-    else (if_board allows (is_spent like c log) d (last (shown c log)))))
+abbrev pub answer : List Entry → Decision → Option Refusal
+answer = A.answer
 
 -- boards that are alike: one is like itself, and so on
 pub record IsLikeness (like : Board → Board → Bool) : Type 0 where

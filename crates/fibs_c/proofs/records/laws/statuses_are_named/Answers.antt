@@ -13,8 +13,8 @@ use Rattle.fibs_position.specs.Names.{position_fault_number, position_fault_name
 use Rattle.fibs_position.specs.declared.position_fault.PositionFault.{PositionFault}
 use Rattle.fibs_position.specs.declared.position_fault.PositionFault.TheVariants.{NotYou, TooManyOwn, TooManyOther}
 use Rattle.fibs_session.specs.History.Refusals.{refusal_number, refusal_name}
-use Rattle.fibs_session.specs.declared.histories.refusal.Refusal.{Refusal}
-use Rattle.fibs_session.specs.declared.histories.refusal.Refusal.TheVariants as R
+use Rattle.fibs_game.specs.declared.refusal.Refusal.{Refusal}
+use Rattle.fibs_game.specs.declared.refusal.Refusal.TheVariants as R
 use Rattle.fibs_c.specs.Records.Statuses.{status_name}
 use Rattle.fibs_c.proofs.records.laws.statuses_are_named.Goals as goal
 

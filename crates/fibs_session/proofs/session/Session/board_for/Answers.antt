@@ -8,7 +8,7 @@ use Rattle.fibs_position.specs.declared.disallowed.Disallowed.{Disallowed}
 use Rattle.fibs_position.specs.declared.game_board.GameBoard.{GameBoard}
 use Rattle.fibs_session.specs.History.Allows.{allows, refusal_of}
 use Rattle.fibs_session.specs.History.Log.{Flags}
-use Rattle.fibs_session.specs.declared.histories.refusal.Refusal.TheVariants.{Waiting}
+use Rattle.fibs_game.specs.declared.refusal.Refusal.TheVariants.{Waiting}
 use Rattle.fibs_session.specs.Calls.FieldSteps.{answer_of}
 use Rattle.fibs_session.specs.Calls.SessionOf.{session_of, server_flags, ask_of}
 use Rattle.fibs_session.specs.Calls.SessionValue.{SessionValue}
