@@ -1,6 +1,7 @@
 #!/usr/bin/perl
 # A filter of rlwrap for fibs-play: Ctrl-C cancels what is typed; pressed twice if nothing is, it leaves. If the window
-# has another width, the program is told before the next line. Tab knows each player whom the server listed.
+# has another width, the program is told before the next line. Tab completes what belongs where it is pressed: a player
+# whom the server listed after `tell`, a place after `m`, else words.
 use strict;
 use lib ($ENV{RLWRAP_FILTERDIR} or '.');
 use RlwrapFilter;
@@ -51,11 +52,32 @@ sub hear_log {
     }
 }
 
-# What may follow what was typed: what rlwrap has read on the screen, and players.
+# The first words after which a player is named, and nothing else; and those after which all that follows is places.
+my %names_player = map { $_ => 1 } qw(tell t message invite join watch whois gag ungag);
+my %has_places = map { $_ => 1 } qw(move m try plays);
+
+# The places that may end what was typed: of `24/1`, the second one.
+sub places {
+    my ($first, $typed) = @_;
+    my ($from, $begun) = $typed =~ m{^(.*[/-])?(.*)$};
+    my @all = (1 .. 24, !defined $from || $first eq 'plays' ? 'bar' : 'off');
+    return map { ($from // '') . $_ } grep { index($_, $begun) == 0 } @all;
+}
+
+# What may follow what was typed, where it stands: a player, a place, or one of the words that rlwrap knows or has read
+# on the screen, and players.
 sub completes {
     my ($line, $typed, @read) = @_;
     hear_log();
-    my %all = map { $_ => 1 } @read, grep { index($_, $typed) == 0 } keys %players;
+    my @players = grep { index($_, $typed) == 0 } keys %players;
+    (my $before = $line) =~ s/\Q$typed\E\z//;
+    my ($first, $between) = $before =~ /^\s*(\S+)\s+(.*)$/;
+    if (defined $first) {
+        $first = lc $first;
+        return sort @players if $names_player{$first} && $between eq '';
+        return places($first, $typed) if $has_places{$first};
+    }
+    my %all = map { $_ => 1 } @read, @players;
     return sort keys %all;
 }
 

@@ -398,11 +398,12 @@ def fibs_play_is_plain_shell(_program):
 
 
 def fibs_play_tells_its_use(_program):
-    for words, status in ([], 2), (['localhost', '4321'], 2), (['a', 'b', 'c', 'd'], 2), (['-h'], 0), (['--help'], 0):
+    for words, status in ([], 2), (['localhost'], 2), (['localhost', '4321'], 2), (['a', 'b', 'c', 'd'], 2), (
+            ['-h'], 0), (['--help'], 0):
         done = run([ROOT / 'scripts' / 'fibs-play', *words], stdin=subprocess.DEVNULL)
         said, other = (done.stderr, done.stdout) if status else (done.stdout, done.stderr)
         same(repr(words), (done.returncode, said.splitlines()[:1], other),
-             (status, ['usage: fibs-play [--log FILE] [HOST PORT NAME]'], ''))
+             (status, ['usage: fibs-play [--log FILE] [HOST PORT [NAME]]'], ''))
 
 
 def fibs_play_takes_what_the_settings_say(_program):

@@ -6,7 +6,8 @@ import statistics
 import time
 
 from escapes import BOARD
-from people import Failed, begun, greeted, leaves, logs_in, same, with_listener
+from people import PASSWORD, Failed, Served, begun, greeted, leaves, logs_in, same, with_listener
+from terminals import RLWRAP, told
 
 from props import peeking
 
@@ -16,21 +17,24 @@ MEMORY = 3072
 ROUNDS = 200
 
 
-def switches(job):
-    """How often the threads of a job have gone to sleep by themselves."""
-    count = 0
-    for thread in os.listdir('/proc/%d/task' % job):
-        with open('/proc/%d/task/%s/status' % (job, thread)) as status:
-            count += int(re.search(r'^voluntary_ctxt_switches:\s+(\d+)', status.read(), re.M)[1])
-    return count
+def spent(ann):
+    """How often the threads of a job, and of the processes that it has begun, have gone to sleep by themselves; and the
+    ticks of the processor that they took."""
+    count, ticks = 0, 0
+    for job in (ann.job, *ann.below()):
+        for thread in os.listdir('/proc/%d/task' % job):
+            with open('/proc/%d/task/%s/status' % (job, thread)) as status:
+                count += int(re.search(r'^voluntary_ctxt_switches:\s+(\d+)', status.read(), re.M)[1])
+        ticks += sum(map(int, told('/proc/%d/stat' % job)[11:13]))
+    return count, ticks
 
 
 def is_at_rest(ann, seconds):
     """Nothing happens, and nothing is done."""
     time.sleep(1)
-    before, ticks = switches(ann.job), ann.ticks()
+    before = spent(ann)
     time.sleep(seconds)
-    same('wakes, and ticks of the processor', (switches(ann.job) - before, ann.ticks() - ticks), (0, 0))
+    same('wakes, and ticks of the processor', spent(ann), before)
 
 
 @with_listener
@@ -93,6 +97,41 @@ def milliseconds(server):
     ann.close()
 
 
+# How many milliseconds more rlwrap may take from the password to the server's first row: it sleeps for 500 of them by
+# itself while a filter begins, and a second run of it, to try the filter, would cost as many more.
+MOST_OF_RLWRAP = 800
+
+
+def to_the_first_row(server, kind):
+    """The milliseconds from the end of the password to the first row."""
+    ann = begun(server, kind, password=False)
+    ann.sees('password: ')
+    # who types a password is slower than this
+    time.sleep(1)
+    began = time.monotonic()
+    ann.type(PASSWORD)
+    ann.sees('connected to')
+    took = 1000 * (time.monotonic() - began)
+    ann.sees('Welcome, ann')
+    ann.type('quit')
+    ann.ends(0)
+    ann.close()
+    return took
+
+
+def the_first_row_with_rlwrap():
+    """Nothing is tried once more before it."""
+    if not RLWRAP:
+        return
+    server = Served('--no-changes')
+    with_it, without = [[to_the_first_row(server, kind) for _ in range(5)] for kind in ('xterm', 'dumb')]
+    server.close()
+    more = min(with_it) - min(without)
+    print('        measured: with rlwrap the first row comes %.0f ms later, after %.0f ms' % (more, min(with_it)),
+          flush=True)
+    same('at most %d ms' % MOST_OF_RLWRAP, more <= MOST_OF_RLWRAP, True)
+
+
 @with_listener
 def memory(server):
     ann = greeted(server)
@@ -132,5 +171,5 @@ def what_is_set_of_the_connection(server):
     ann.close()
 
 
-SCENES = [no_wakes_at_rest, no_wakes_after_a_loss, milliseconds, memory, a_dead_router_is_seen,
+SCENES = [no_wakes_at_rest, no_wakes_after_a_loss, milliseconds, the_first_row_with_rlwrap, memory, a_dead_router_is_seen,
           what_is_set_of_the_connection]

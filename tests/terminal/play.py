@@ -13,7 +13,7 @@ from people import (LOGIN, PASSWORD, PATIENCE, PROGRAM, ROOM, ROOT, Client, Fail
                     leaves, same, with_listener)
 from terminals import KINDS, PLAY, RLWRAP, SHELLS
 
-REFUSED = 2
+REFUSED, REFUSED_INPUT = 2, 3
 
 # What a person is told of a password that is not valid.
 NO_PASSWORD = 'A password has printable ASCII characters, at least one, no space. [2 BadText]'
@@ -23,7 +23,7 @@ TOO_LONG = 'A password has at most 64 characters. [3 TooLong]'
 def drawn(player):
     """The rows as they stand on the terminal."""
     rows, at = [[]], 0
-    for found in re.finditer(r'\x1b\[(\d*)([a-zA-Z@])|(.)', player.screen(), re.S):
+    for found in re.finditer(r'\x1b\[\??(\d*)([a-zA-Z@])|(.)', player.screen(), re.S):
         count, order, letter = found.groups()
         row = rows[-1]
         if letter == '\n':
@@ -165,7 +165,7 @@ def what_can_not_be_is_refused_before_a_password_is_typed():
         (['localhost', '65536', 'ann'], 'PORT'), (['localhost', '4321', ''], 'NAME'),
         (['localhost', '4321', 'a:b'], 'NAME'), (['localhost', '4321', 'a b'], 'NAME'),
         (['localhost', '4321', 'a' * 65], 'NAME'), (['--log', '/', 'localhost', '4321', 'ann'], 'log'),
-        (['--log'], '--log'), (['localhost', '4321'], 'usage'),
+        (['--log'], '--log'), (['localhost'], 'usage'),
     ]
     for shell in SHELLS:
         for words, wanted in rows:
@@ -174,6 +174,64 @@ def what_can_not_be_is_refused_before_a_password_is_typed():
             same('%s is named for %r' % (wanted, words), wanted in player.plain(), True)
             same('a password is asked for', 'password' in player.plain().replace('the password', ''), False)
             player.close()
+
+
+@with_server
+def a_name_is_asked_for(server):
+    """If it is missing; what can be none is refused, and so it is if nobody types."""
+    for typed, status in (b'ann\n', 0), (b' ann \n', 0), (b'a:b\n', REFUSED), (b'\n', REFUSED), (b'\x04', 0):
+        player = Typist(['127.0.0.1', str(server.port)], 'dumb', password=False)
+        player.sees('name: ')
+        player.type_bytes(typed)
+        if typed.strip() == b'ann':
+            player.sees('password: ')
+            player.type(PASSWORD)
+            player.is_shown('Welcome, ann')
+            player.type('quit')
+        player.ends(status)
+        same('what is said of %r' % typed, 'NAME has to be' in player.screen(), status == REFUSED)
+        player.close()
+
+
+# The files that fibs-play finds beside it, and what it says of one that is missing.
+FILES = {'keys.pl': 'Ctrl-C ends the program', 'inputrc': 'Ctrl-C ends the program', 'typed': 'Tab completes no words'}
+
+
+@with_server
+def each_file_that_is_missing_is_named(server):
+    """And Ctrl-C is not taken away: it cancels the line, if its two files are there, else it ends the program."""
+    for missing in ['keys.pl'], ['inputrc'], ['typed'], list(FILES), []:
+        with tempfile.TemporaryDirectory() as room:
+            subprocess.run(['make', '-s', 'install-surface', 'PREFIX=' + room], cwd=ROOT, check=True,
+                           capture_output=True)
+            for name in missing:
+                os.remove(os.path.join(room, 'share', 'fibs', name))
+            player = begun(server, 'xterm', play=os.path.join(room, 'bin', 'fibs-play'))
+            player.is_shown('Welcome, ann')
+            player.shown(0.5)
+            rows = [row for row in player.plain().split('\n') if row.startswith('fibs-play: ')]
+            same('the rows without %r' % missing, sorted(rows), sorted(
+                'fibs-play: %s is missing: %s. make install brings it.' % (name, FILES[name]) for name in missing))
+            same('the longest', max(map(len, rows), default=0) <= 79, True)
+            player.type_bytes(b'tell eve never\x03')
+            if missing in ([], ['typed']):
+                player.is_shown('cancelled')
+                player.type('quit')
+                player.ends(0)
+            else:
+                player.ends(130)
+            same('the terminal is as it was', (player.echoes(), player.interrupts()), (True, b'\x03'))
+            player.close()
+
+
+def a_program_that_is_missing():
+    """It is said before a password is asked for."""
+    with tempfile.TemporaryDirectory() as room:
+        player = Typist(['localhost', '4321', 'ann'], 'dumb', password=False, FIBS=os.path.join(room, 'fibs'))
+        player.ends(REFUSED)
+        same('the screen', player.screen(),
+             "fibs-play: the program '%s/fibs' is missing: make install brings it\n" % room)
+        player.close()
 
 
 @with_server
@@ -229,11 +287,13 @@ def a_half_typed_line_is_kept(server):
     player.close()
 
 
-# At the question for the password: what is typed or sent, the status, and what is on the screen then.
+# At the question for the password: what is typed or sent, the status, and what is on the screen then. One that can't be
+# is asked for three times.
+AGAIN = '\npassword: \n'
 QUESTIONS = [
     (b'\x03', 130, ''), (b'\x1c', 131, ''), (b'\x04', 0, ''), (signal.SIGTERM, 143, ''), (signal.SIGHUP, 129, ''),
-    (b'hun\x03', 130, ''), (b'\n', 3, NO_PASSWORD + '\n'), (b'a b\n', 3, NO_PASSWORD + '\n'),
-    (b'a' * 65 + b'\n', 3, TOO_LONG + '\n'),
+    (b'hun\x03', 130, ''), (b'\n', 3, AGAIN.join([NO_PASSWORD] * 3) + '\n'),
+    (b'a b\n', 3, AGAIN.join([NO_PASSWORD] * 3) + '\n'), (b'a' * 65 + b'\n', 3, AGAIN.join([TOO_LONG] * 3) + '\n'),
 ]
 
 
@@ -249,6 +309,10 @@ def the_question_ends(server):
                 player.type_bytes(given)
             else:
                 os.kill(player.job, given)
+            for _ in range(2 if status == REFUSED_INPUT else 0):
+                player.sees('password: ')
+                player.is_silent()
+                player.type_bytes(given)
             player.ends(status)
             same('the screen after %r, by %r' % (given, shell), (player.screen(), player.echoes()),
                  ('password: \n' + said, True))
@@ -317,6 +381,30 @@ def tab_completes_the_words(server):
         leaves(player, server)
 
 
+@with_server
+def tab_completes_by_place(server):
+    """A player after what takes one, and nothing else; places after a move."""
+    with tempfile.TemporaryDirectory() as room:
+        subprocess.run(['make', '-s', 'install-surface', 'PREFIX=' + room], cwd=ROOT, check=True, capture_output=True)
+        others = [Client(server.port, name) for name in ('bob', 'barbara')]
+        player = in_play(server, play=os.path.join(room, 'bin', 'fibs-play'))
+        for typed, shown in [(b'tell bo\t', 'tell bob'), (b't ba\t', 't barbara'), (b'invite e\t', 'invite eve'),
+                             (b'join bo\t', 'join bob'), (b'watch e\t', 'watch eve'), (b'whois ba\t', 'whois barbara'),
+                             (b'tell qui\t', 'tell qui'), (b'm ba\t', 'm bar'), (b'm bar/2\t0 6/o\t', 'm bar/20 6/off'),
+                             (b'quie\t', 'quiet'), (b'm wi\t', 'm wi')]:
+            player.type_bytes(typed)
+            player.shown(0.3)
+            row = drawn(player)[-1].rstrip()
+            same('after %r' % typed, row, shown)
+            player.type_bytes(b'\x03')
+            player.shown(0.2)
+        player.type('quit')
+        player.ends(0)
+        player.close()
+        for other in others:
+            other.close()
+
+
 # how the wire is, after an opening with which ann begins
 WIRES = [((), ''), (('--delay', '80'), '_over_a_wire_with_delay'),
          (('--portions', '60', '--pause', '30'), '_in_pieces')]
@@ -324,6 +412,7 @@ FAR_SCENES = [with_server(scene, '--dice', '31', *options, more=more)
               for scene in (pictures_stand_straight, a_half_typed_line_is_kept) for options, more in WIRES]
 
 SCENES = [ctrl_c_cancels_the_line_and_not_the_game, ctrl_c_after_a_stop, tab_completes_the_players_names,
-          tab_completes_the_words, a_small_terminal, a_word_where_rlwrap_is_missing,
+          tab_completes_the_words, tab_completes_by_place, a_name_is_asked_for, each_file_that_is_missing_is_named,
+          a_program_that_is_missing, a_small_terminal, a_word_where_rlwrap_is_missing,
           what_can_not_be_is_refused_before_a_password_is_typed, the_question_ends, a_stop_does_not_show_the_password,
           the_password_is_in_no_list_of_processes, fibs_play_without_a_terminal, a_log, *FAR_SCENES]

@@ -166,6 +166,10 @@ class Terminal:
         """Whether the terminal shows what is typed."""
         return bool(termios.tcgetattr(self.fd)[3] & termios.ECHO)
 
+    def is_silent(self):
+        """Waits until the terminal does not show what is typed."""
+        self.wait_until('the terminal is silent', lambda: not self.echoes())
+
     def interrupts(self):
         """The key that interrupts."""
         return termios.tcgetattr(self.fd)[6][termios.VINTR]
@@ -201,8 +205,8 @@ class Terminal:
         """What the system tells of the job's process, from its state on."""
         return told('/proc/%d/stat' % self.job)
 
-    def states_below(self):
-        """The states of the processes that the job's process has begun."""
+    def below(self, states=False):
+        """The processes that the job's process has begun, or their states."""
         for path in glob.glob('/proc/[0-9]*/stat'):
             try:
                 state, parent = told(path)[:2]
@@ -210,7 +214,11 @@ class Terminal:
                 # it is over
                 continue
             if int(parent) == self.job:
-                yield state
+                yield state if states else int(path.split('/')[2])
+
+    def states_below(self):
+        """The states of the processes that the job's process has begun."""
+        return self.below(states=True)
 
     def is_waiting(self):
         """Waits until the job waits: a shell that has not begun to read yet may let a signal wait for the next key."""
