@@ -206,7 +206,7 @@ def the_refusals_are_the_same(_program):
     formats = re.search(r'`refused NUMBER NAME` \| the client refuses: (.*?) \|', text_of('docs/FORMATS.md'))[1]
     wanted = formats.split(', ')
     same('the page', re.findall(r'^\.It Li (\d+ \w+)$', page('REFUSALS'), re.M), wanted)
-    same('docs/PLAYING.md', re.findall(r'^\| `refused (\d+ \w+)` \|', text_of('docs/PLAYING.md'), re.M), wanted)
+    same('its table', re.findall(r'^\| `refused (\d+ \w+)` \|', text_of('docs/FORMATS.md'), re.M), wanted)
 
 
 def the_statuses_are_the_same(_program):
@@ -270,15 +270,15 @@ def each_refusal_means_the_same(_program):
     known = {'%d %s' % (number, name): meaning for number, name, meaning in meanings.REFUSALS}
     same('docs/FORMATS.md', listed_by_formats('refused NUMBER NAME'), list(known))
     held('the page', described_by_the_page('REFUSALS'), known)
-    rows = described_by_table('docs/PLAYING.md', '## What is refused')
-    held('docs/PLAYING.md', [([span.replace('refused ', '') for span in spans], said) for spans, said in rows], known)
+    rows = described_by_table('docs/FORMATS.md', '## Why a line is refused')
+    held('docs/FORMATS.md', [([span.replace('refused ', '') for span in spans], said) for spans, said in rows], known)
 
 
 def each_fault_has_its_number(_program):
     for kind, table in ('fault NUMBER NAME', meanings.FAULTS), ('directory NUMBER NAME', meanings.DIRECTORY):
         same(kind, listed_by_formats(kind), ['%d %s' % row[:2] for row in table])
-    spans = [span for spans, _said in described_by_table('docs/PLAYING.md', '## What is refused') for span in spans]
-    same('docs/PLAYING.md', [span for span in spans if span.startswith('fault')],
+    spans = [span for spans, _said in described_by_table('docs/FORMATS.md', '## Why a line is refused') for span in spans]
+    same('docs/FORMATS.md', [span for span in spans if span.startswith('fault')],
          ['fault %d %s' % row[:2] for row in meanings.FAULTS])
 
 

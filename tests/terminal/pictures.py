@@ -18,8 +18,8 @@ SHOWN = ('board:You:eve:5:2:1:0:-2:0:0:3:0:6:0:3:0:0:0:-4:2:0:0:0:-3:0:-5:0:0:0:
          '1:5:3:0:0:2:1:0:0:1:-1:0:25:0:0:1:1:2:0:0:0')
 
 # The board of README.md.
-ENDING = ('board:You:bob:1:0:0:0:0:0:1:0:1:0:0:0:0:0:0:0:0:0:0:0:0:0:0:0:0:-1:-1:0:0:'
-          '1:0:0:0:0:1:0:0:0:1:-1:0:25:13:13:0:0:0:0:0:0')
+MIDDLE = ('board:You:bob:5:2:1:0:-1:0:0:2:2:4:0:3:0:0:0:-4:3:0:0:0:-3:0:-4:-2:-1:0:0:1:0:'
+          '1:0:0:0:0:2:1:0:0:1:-1:0:25:0:0:0:0:2:0:0:0')
 
 CAPTURE = (ROOT / 'examples' / 'capture.txt').read_text()
 
@@ -45,7 +45,7 @@ def shown_by(*words, columns=80, held='', **more):
 @scene
 def the_picture_of_the_pages():
     """The pages have it without the last row, as a terminal with letters in bold has."""
-    for board, pages in (SHOWN, ['docs/PLAYING.md', 'docs/fibs.1']), (ENDING, ['README.md']):
+    for board, pages in (SHOWN, ['docs/PLAYING.md', 'docs/fibs.1']), (MIDDLE, ['README.md']):
         drawn = shown_by('show', held=board + '\n').splitlines(True)
         same('its lines', len(drawn), 14)
         for page in pages:
