@@ -10,3 +10,4 @@ pub mod Moving
 pub mod Due
 pub mod Joins
 pub mod Owing
+pub mod Before
