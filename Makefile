@@ -21,6 +21,8 @@ CRATES := $(shell sed -nE 's/^([a-z0-9_]+)( [^:]*)?:.*/\1/p' crates.txt)
 VERSION := $(shell sed -n 's/^.define FIBS_VERSION "\(.*\)"$$/\1/p' include/fibs.h)
 SONAME := libfibs.so.$(basename $(VERSION))
 OBJCOPY ?= objcopy
+# what says that the library in lib/ is built by cargo
+OF_CARGO := out/library_of_cargo
 C_ARCHIVE := crates/fibs_c/out/libfibs_c.a
 # what is installed and packed as it is: the program, and the folder of the library
 PROGRAM = bin/fibs
@@ -59,10 +61,16 @@ $(BESIDE): bin/%: scripts/%
 built:
 	@[ -x bin/fibs ] || $(MAKE) --no-print-directory all
 
-lib: ## proves and builds the library for C: lib/libfibs.a, lib/libfibs.so and lib/fibs.pc
+lib: ## proves and builds the library for C: lib/libfibs.a, lib/libfibs.so and lib/fibs.pc. Without rt cargo builds it
+ifneq ($(KIT),)
 	@scripts/tools lib
 	@scripts/prove fibs_c
+	@if [ -e $(OF_CARGO) ]; then rm -f lib/libfibs.* $(OF_CARGO); fi
 	@$(MAKE) --no-print-directory lib/libfibs.a lib/libfibs.so lib/fibs.pc python/fibs/libfibs.so
+else
+	@$(MAKE) --no-print-directory $(OF_CARGO)
+	@$(MAKE) --no-print-directory lib/fibs.pc python/fibs/libfibs.so
+endif
 
 test: ## passes all tests: the proofs, the edits that must fail, the tests of what was built; without rt what needs none
 ifeq ($(KIT),)
@@ -106,6 +114,12 @@ endif
 dist-files:
 	@VERSION=$(VERSION) SONAME=$(SONAME) PROGRAM=$(PROGRAM) LIBRARY=$(LIBRARY) TARGET=$(TARGET) scripts/dist
 
+ifeq ($(KIT),)
+$(OF_CARGO): $(shell find crates/*/src rust/build.rs rust/Cargo.toml rust/build rust/src rust/c/src include lib/texts.c \
+		lib/fibs.map scripts/erased_library -type f)
+	@scripts/quickly library
+	@mkdir -p $(@D) && touch $@
+else
 # one archive, which needs the C library alone and shows only fibs_*
 lib/libfibs.a: $(C_ARCHIVE) lib/texts.c include/fibs.h
 	rm -rf lib/objects $@ && mkdir -p lib/objects
@@ -120,6 +134,7 @@ lib/libfibs.so: lib/libfibs.a lib/fibs.map
 	$(CC) -shared -o lib/$(SONAME) -Wl,-soname,$(SONAME) -Wl,--version-script=lib/fibs.map -Wl,--gc-sections -Wl,-z,defs \
 		-Wl,--whole-archive lib/libfibs.a -Wl,--no-whole-archive
 	install -m 755 lib/$(SONAME) $@
+endif
 
 # beside the package, which so finds it where it lies; pip before 21.3 copies no more than python/ to build it
 python/fibs/libfibs.so: lib/libfibs.so

@@ -222,8 +222,9 @@ def _load() -> Any:
         if version.split('.')[:2] != VERSION.split('.')[:2]:
             raise OSError('%s is libfibs %s' % (path, version))
     except (OSError, AttributeError) as why:
-        raise ImportError('no libfibs %s: %s; `make lib` builds lib/libfibs.so, `make install-lib` installs it, and '
-                          'FIBS_LIBRARY names its file' % (VERSION, why)) from why
+        raise ImportError('no libfibs %s: %s; `make lib`, which takes gcc and cargo, builds lib/libfibs.so in the '
+                          'repository, `make install-lib` installs it, and FIBS_LIBRARY names its file'
+                          % (VERSION, why)) from why
     return library
 
 

@@ -611,7 +611,7 @@ def records_lie_as_in_c(counts):
 
 def the_library_is_found_or_named(counts):
     """As $FIBS_LIBRARY says; what is no library of this version is an ImportError that tells what to do."""
-    for path, wanted in [('/nowhere/libfibs.so', 'make lib'), ('libc.so.6', 'make lib')]:
+    for path, wanted in [('/nowhere/libfibs.so', 'cargo'), ('libc.so.6', '`make lib`')]:
         told = subprocess.run([sys.executable, '-c', 'import fibs'], capture_output=True, text=True,
                               env={**os.environ, 'FIBS_LIBRARY': path, 'PYTHONPATH': str(ROOT / 'python')})
         counts.check(told.returncode == 1 and 'ImportError' in told.stderr and wanted in told.stderr, told.stderr)
