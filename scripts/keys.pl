@@ -88,4 +88,13 @@ $filter->hotkey_handler(\&cancels);
 $filter->completion_handler(\&completes);
 # a line was typed
 $filter->history_handler(sub { $pressed = 0; $_ });
+# rlwrap leaves the terminal alone until its filter answers for the first time: that is when the password is typed.
+if (defined $ENV{FIBS_PLAY_ROOM} && open my $gate, '<', "$ENV{FIBS_PLAY_ROOM}/gate") {
+    local $SIG{TSTP} = 'IGNORE';
+    if (open my $ready, '>', "$ENV{FIBS_PLAY_ROOM}/ready") {
+        print $ready "\n";
+        close $ready;
+    }
+    <$gate>;
+}
 $filter->run;

@@ -97,9 +97,8 @@ def milliseconds(server):
     ann.close()
 
 
-# How many milliseconds more rlwrap may take from the password to the server's first row: it sleeps for 500 of them by
-# itself while a filter begins, and a second run of it, to try the filter, would cost as many more.
-MOST_OF_RLWRAP = 800
+# How many milliseconds more rlwrap may take from the password to the server's first row: it has begun before.
+MOST_OF_RLWRAP = 100
 
 
 def to_the_first_row(server, kind):
@@ -120,7 +119,7 @@ def to_the_first_row(server, kind):
 
 
 def the_first_row_with_rlwrap():
-    """Nothing is tried once more before it."""
+    """It comes as soon as without."""
     if not RLWRAP:
         return
     server = Served('--no-changes')

@@ -1,5 +1,6 @@
 """fibs-play on real terminals: its keys, its rows, what it refuses, and what it hands through."""
 
+import itertools
 import os
 import pathlib
 import re
@@ -289,6 +290,8 @@ def a_half_typed_line_is_kept(server):
 
 # At the question for the password: what is typed or sent, the status, and what is on the screen then. One that can't be
 # is asked for three times.
+# (rlwrap draws an empty line before its end)
+WITHOUT = re.compile(r'(?<=\n)\n+|\x1b\[2[23];0t')
 AGAIN = '\npassword: \n'
 QUESTIONS = [
     (b'\x03', 130, ''), (b'\x1c', 131, ''), (b'\x04', 0, ''), (signal.SIGTERM, 143, ''), (signal.SIGHUP, 129, ''),
@@ -299,10 +302,11 @@ QUESTIONS = [
 
 @with_listener
 def the_question_ends(server):
-    """By each shell: nothing is shown of what is typed, the terminal is as it was, and nobody has connected."""
-    for shell in SHELLS:
+    """By each shell, with rlwrap and without: nothing is shown of what is typed, the terminal is as it was, and nobody
+    has connected."""
+    for shell, kind in itertools.product(SHELLS, KINDS):
         for given, status, said in QUESTIONS:
-            player = begun(server, shell=shell, password=False)
+            player = begun(server, kind, shell=shell, password=False)
             player.sees('password: ')
             player.is_waiting()
             if isinstance(given, bytes):
@@ -314,17 +318,19 @@ def the_question_ends(server):
                 player.is_silent()
                 player.type_bytes(given)
             player.ends(status)
-            same('the screen after %r, by %r' % (given, shell), (player.screen(), player.echoes()),
-                 ('password: \n' + said, True))
+            same('the screen after %r, by %r on %s' % (given, shell, kind),
+                 (WITHOUT.sub('', player.plain()), player.echoes(), player.interrupts()),
+                 ('password: \n' + said, True, b'\x03'))
             player.close()
     server.is_alone()
 
 
 @with_listener
 def a_stop_does_not_show_the_password(server):
-    """By each shell: Ctrl-Z at the question does nothing, since a shell would turn the echo on."""
-    for shell in SHELLS:
-        player = begun(server, shell=shell, password=False)
+    """By each shell, with rlwrap and without: Ctrl-Z at the question does nothing, since a shell would turn the echo
+    on."""
+    for shell, kind in itertools.product(SHELLS, KINDS):
+        player = begun(server, kind, shell=shell, password=False)
         player.sees('password: ')
         player.type_bytes(PASSWORD[:3].encode() + b'\x1a')
         player.shown()
@@ -332,6 +338,8 @@ def a_stop_does_not_show_the_password(server):
         player.type(PASSWORD)
         server.accept()
         same('received', server.line().endswith(PASSWORD), True)
+        if kind != 'dumb':
+            player.edits_lines()
         player.type('quit')
         player.ends(0)
         same('the password is shown', PASSWORD in player.screen(), False)
