@@ -1,0 +1,21 @@
+-- Why the headline, and all else that is said of games, holds of each that keeps the laws.
+pub mod past
+pub mod wires
+pub mod log
+pub mod Answering
+pub mod ServerActs
+pub mod Refusing
+pub mod Stepping
+pub mod ClientActs
+pub mod Talks
+pub mod Sound
+pub mod joint
+pub mod Numbered
+pub mod Steps
+pub mod Once
+pub mod DueYes
+pub mod Final
+pub mod rest
+pub mod Headline
+pub mod Counting
+pub mod Sharing

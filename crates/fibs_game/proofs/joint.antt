@@ -1,0 +1,13 @@
+pub mod Joint
+pub mod Sending
+pub mod Asked
+pub mod Deliver
+pub mod Click
+pub mod Turns
+pub mod EachEvent
+pub mod Acting
+pub mod Carrying
+pub mod Left
+pub mod Serving
+pub mod Stated
+pub mod Steady

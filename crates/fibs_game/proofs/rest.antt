@@ -1,0 +1,4 @@
+pub mod Measure
+pub mod Agreeing
+pub mod Saying
+pub mod Resting
