@@ -4,7 +4,7 @@ use Rattle.std.specs.Io.KnownBytes.{Appends, Keeps}
 use Rattle.fibs_engine.specs.Writing.{GainedFront}
 use Rattle.fibs_engine.specs.declared.fault.EngineFault.{EngineFault}
 use Rattle.fibs_engine.specs.declared.fault.EngineFault.TheVariants as fault
-use Rattle.fibs_model.specs.declared.machine.refusal.WorldRefusal.TheVariants as W
+use Rattle.fibs_game.specs.declared.world_refusal.WorldRefusal.TheVariants as W
 use Rattle.fibs_model.specs.declared.halt.Stop.{Stop}
 use Rattle.fibs_model.specs.declared.halt.Stop.TheVariants as S
 use Rattle.fibs_replay.specs.Output.{IsFor, LogOf, ReplayText}

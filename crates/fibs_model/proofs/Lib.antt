@@ -1,19 +1,5 @@
--- Why the calls of a world do what the machine does, and why the headline holds of the machine.
-pub mod Following
+-- Why the calls of a world do what the machine does, and what holds of backgammon by the laws of any game.
 pub mod Likeness
 pub mod needles
 pub mod Outcomes
-pub mod Lawful
-pub mod Answering
-pub mod ClientActs
-pub mod ServerActs
-pub mod log
-pub mod wires
-pub mod joint
-pub mod Numbered
-pub mod Final
-pub mod Steps
-pub mod OnceLemmas
-pub mod rest
 pub mod RealLaws
-pub mod Projection

@@ -16,8 +16,8 @@ use Rattle.fibs_model.specs.Wires.{next_line}
 use Rattle.fibs_model.specs.ServerOf.{after_line}
 pub use Rattle.fibs_model.specs.ServerOf.{served_entries, is_answered}
 use Rattle.fibs_model.specs.declared.world.link.Link as C
-use Rattle.fibs_model.specs.declared.machine.refusal.WorldRefusal.{WorldRefusal}
-use Rattle.fibs_model.specs.declared.machine.refusal.WorldRefusal.TheVariants.{NoSuchConnection, BadDice, NothingToServe}
+use Rattle.fibs_game.specs.declared.world_refusal.WorldRefusal.{WorldRefusal}
+use Rattle.fibs_game.specs.declared.world_refusal.WorldRefusal.TheVariants.{NoSuchConnection, BadDice, NothingToServe}
 
 -- commands go on the wire to the server
 abbrev pub ask_links : List LinkValue → ℕ → List (List ℕ) → List LinkValue

@@ -1,5 +1,4 @@
 -- How the world of the program corresponds to the machine, and what its calls do.
-pub mod Clients
 pub mod LinksOf
 pub mod WireLinks
 pub mod WorldOf
@@ -15,14 +14,14 @@ pub mod ServerOf
 pub mod EventOf
 pub mod EntryOf
 pub mod RefusalNames
--- The machine over the events of a world: the wires, the server, the events, and which are refused.
+-- The machine over the events of a world, of backgammon.
 pub mod Wires
 pub mod Server
 pub mod Events
 pub mod World
 pub mod Refusals
 pub mod Runs
--- What holds of it: the headline, and the other statements.
+-- What holds of it, of backgammon: the headline, and the other statements.
 pub mod Headline
 pub mod Once
 pub mod Stale
@@ -30,6 +29,4 @@ pub mod Acts
 pub mod Joint
 pub mod Agrees
 pub mod CanRest
-pub mod Owed
 pub mod Laws
-pub mod Talks

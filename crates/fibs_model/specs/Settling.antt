@@ -11,8 +11,8 @@ use Rattle.fibs_model.specs.Events.{Event}
 use Rattle.fibs_model.specs.Headline.{IsAtRest}
 use Rattle.fibs_model.specs.Joint.{AreLines}
 use Rattle.fibs_model.specs.World.{World}
-use Rattle.fibs_model.specs.declared.machine.refusal.WorldRefusal.{WorldRefusal}
-use Rattle.fibs_model.specs.declared.machine.refusal.WorldRefusal.TheVariants.{NotOpen, BadDice}
+use Rattle.fibs_game.specs.declared.world_refusal.WorldRefusal.{WorldRefusal}
+use Rattle.fibs_game.specs.declared.world_refusal.WorldRefusal.TheVariants.{NotOpen, BadDice}
 use Rattle.fibs_model.specs.WorldCalls.{WorldStandsAfter, machine_after}
 use Rattle.fibs_model.specs.WorldOf.{WorldValue}
 

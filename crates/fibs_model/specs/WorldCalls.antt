@@ -10,8 +10,8 @@ use Rattle.fibs_model.specs.World.{World}
 use Rattle.fibs_model.specs.WorldOf.{WorldValue, StandsFor}
 use Rattle.fibs_model.specs.declared.halt.Stop.{Stop}
 use Rattle.fibs_model.specs.declared.halt.Stop.TheVariants.{Refused, Broken}
-use Rattle.fibs_model.specs.declared.machine.refusal.WorldRefusal.{WorldRefusal}
-use Rattle.fibs_model.specs.declared.machine.refusal.WorldRefusal.TheVariants.{Memory}
+use Rattle.fibs_game.specs.declared.world_refusal.WorldRefusal.{WorldRefusal}
+use Rattle.fibs_game.specs.declared.world_refusal.WorldRefusal.TheVariants.{Memory}
 
 -- the machine's world after the events, from the first board on, for the login of a name and a password
 abbrev pub machine_after : List ℕ → List ℕ → BoardFields → List Event → World

@@ -3,7 +3,7 @@ use Rattle.std.specs.Prelude.{◌≡◌, ◌≤◌, ℕ, List, length, map, vec_
 use Rattle.fibs_session.specs.Calls.Standing.{ClientValue, StandsAfter}
 use Rattle.fibs_session.specs.History.Log.{Entry}
 use Rattle.fibs_session.specs.History.Words.{open_now}
-use Rattle.fibs_model.specs.Talks.{IsWorld}
+use Rattle.fibs_game.specs.Talks.{IsWorld}
 use Rattle.fibs_model.specs.EntryOf.{entry_of}
 use Rattle.fibs_model.specs.Events.{Event}
 use Rattle.fibs_model.specs.LinksOf.{LinkValue, kept_of, seen, link_at}

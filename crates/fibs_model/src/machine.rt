@@ -2,6 +2,5 @@
 //! the program is in `world`.
 
 pub mod laws;
-mod refusal;
 
-pub use refusal::WorldRefusal;
+pub use fibs_game::WorldRefusal;

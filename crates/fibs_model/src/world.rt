@@ -74,7 +74,7 @@ impl Model for World {
 }
 
 impl World {
-    ghost use Rattle.fibs_model.specs.declared.machine.refusal.WorldRefusal.TheVariants.{BadBoard};
+    ghost use Rattle.fibs_game.specs.declared.world_refusal.WorldRefusal.TheVariants.{BadBoard};
 
     /// A world in which nothing has happened, with a first board of the server and the login of the user.
     ///

@@ -6,7 +6,7 @@ use Rattle.fibs_model.specs.Carrying.{Crossing}
 use Rattle.fibs_model.specs.Crossings.{crossings}
 use Rattle.fibs_model.specs.Events.{Event}
 use Rattle.fibs_model.specs.Runs.{MayBe}
-use Rattle.fibs_model.specs.declared.machine.refusal.WorldRefusal.{WorldRefusal}
+use Rattle.fibs_game.specs.declared.world_refusal.WorldRefusal.{WorldRefusal}
 use Rattle.fibs_replay.specs.Output.{script_login, log_after, unread_text, end_text, refused_text}
 use Rattle.fibs_replay.specs.Scripts.{script_lines, SayScript}
 

@@ -3,7 +3,7 @@ use Rattle.std.specs.Prelude.{◌≡◌, ◌++◌, ◌⊎◌, ℕ, Bool, true, L
 use Rattle.fibs_fields.specs.Board.{BoardFields}
 use Rattle.fibs_model.specs.declared.halt.Stop.{Stop}
 use Rattle.fibs_model.specs.declared.halt.Stop.TheVariants as S
-use Rattle.fibs_model.specs.declared.machine.refusal.WorldRefusal.TheVariants as W
+use Rattle.fibs_game.specs.declared.world_refusal.WorldRefusal.TheVariants as W
 use Rattle.fibs_model.specs.Events.{Event}
 use Rattle.fibs_model.specs.Runs.{MayBe, world_after}
 use Rattle.fibs_model.specs.WorldCalls.{WorldStandsAfter, HaltsAt}

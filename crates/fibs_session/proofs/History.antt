@@ -3,11 +3,6 @@ pub mod Texts
 pub mod Fields
 pub mod Steps
 pub mod GoesOn
-pub mod Lists
-pub mod Past
-pub mod Words
-pub mod Moving
 pub mod Due
 pub mod Joins
 pub mod Owing
-pub mod Before

@@ -2,6 +2,7 @@
 use Rattle.std.proofs.Common.{◌≡◌, ℕ, suc, true, false, not, cond, nat_eq, List, [], ◌∷◌, Option, None, Some, inl, refl, sym, ap, subst, ◌∙◌, arith}
 use Rattle.fibs_messages.specs.Message.{MessageValue}
 use Rattle.fibs_connect.specs.Told.{SaidValue, Joins, opened_said}
+use Rattle.fibs_session.specs.Fibs.{fibs}
 use Rattle.fibs_session.specs.declared.taken.Outstanding.{Outstanding}
 use Rattle.fibs_connect.specs.Turns.Script.{outside}
 use Rattle.fibs_connect.specs.Converse.Seats.{TakesTurn, Connects, Opens, OpensAndLoses, seat_of}
@@ -18,13 +19,13 @@ use Rattle.fibs_connect.specs.declared.turns.Ending.TheVariants.{Quiet, Lost}
 use Rattle.fibs_engine.specs.Writing.{Broken}
 use Rattle.fibs_connect.specs.Turns.Turn.{FitsStream, LeavesAs, TurnedBy, is_there, still_given}
 use Rattle.fibs_connect.proofs.TurnLemmas.Turns.{loses_offline}
-use Rattle.fibs_session.proofs.History.Past.{open_append}
+use Rattle.fibs_game.proofs.past.Past.{open_append}
 
 -- offline it opens
 opens_online : (t : Talk) → is_online t ≡ false → is_online (step t Open).talk ≡ true
 opens_online t off =
     ap (λ b. is_online (cond b (stays t) (record { talk = opened t; send = t.login ∷ [] })).talk) off
-    ∙ ap (λ n. not (nat_eq n 0)) (open_append 0 t.log (Opened (suc (connections t.log)) ∷ []))
+    ∙ ap (λ n. not (nat_eq n 0)) ((open_append fibs) 0 t.log (Opened (suc (connections t.log)) ∷ []))
     ∙ ap (λ b. not b) (ne_eqb (suc (connections t.log)) 0 (omega arith))
 
 -- a client that was offline, and opens a connection, is given a stream

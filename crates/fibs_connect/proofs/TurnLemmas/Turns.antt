@@ -3,6 +3,7 @@ use Rattle.std.proofs.Common.{◌≡◌, ◌<◌, ℕ, Bool, true, false, not, i
 use Rattle.std.specs.Io.KnownBytes.{Consumes, Keeps}
 use Rattle.std.proofs.KnownBytes.{Consumes-nil, Consumes-trans, Consumes-kept}
 use Rattle.fibs_lines.specs.StreamLaws.{LinesOnlyGrow}
+use Rattle.fibs_session.specs.Fibs.{fibs}
 use Rattle.fibs_session.specs.History.Log.{Lost as LostEntry}
 use Rattle.fibs_session.specs.History.Words.{open_now}
 use Rattle.fibs_session.specs.History.Machine.{Talk, Piece, Lose, step, stays, does, is_online, unconfirmed_now}
@@ -21,7 +22,7 @@ use Rattle.fibs_session.specs.Typing.{typed_now}
 use Rattle.fibs_connect.proofs.TurnLemmas.Scripts.{did_nothing, did_joined, did_kept, did_same}
 use Rattle.fibs_connect.proofs.TurnLemmas.Hearing.{piece_online, piece_stream, no_acts, acts_join, ends_joined}
 use Rattle.fibs_connect.proofs.TurnLemmas.Typed.{typed_stays}
-use Rattle.fibs_session.proofs.History.Past.{open_append}
+use Rattle.fibs_game.proofs.past.Past.{open_append}
 
 -- these bytes were fed to a client that stood after t, and all that their lines call for was done
 pub record Gone {F : Type 0} (Tells : F → List SaidValue → F → Type 0) (t : Talk) (now : ClientValue) (bytes : List ℕ)
@@ -267,7 +268,7 @@ loses_offline t = go (is_online t) refl
     go : (b : Bool) → is_online t ≡ b → is_online (step t Lose).talk ≡ false
     go true on = ap (λ b. is_online (if b then does t
         (LostEntry (open_now t.log) (unconfirmed_now t) ∷ []) [] else stays t).talk) on
-        ∙ ap (λ n. not (nat_eq n 0)) (open_append 0 t.log (LostEntry (open_now t.log) (unconfirmed_now t) ∷ []))
+        ∙ ap (λ n. not (nat_eq n 0)) ((open_append fibs) 0 t.log (LostEntry (open_now t.log) (unconfirmed_now t) ∷ []))
     go false off = ap (λ b. is_online (if b then does t
         (LostEntry (open_now t.log) (unconfirmed_now t) ∷ []) [] else stays t).talk) off ∙ off
 

@@ -6,6 +6,7 @@ use Rattle.fibs_position.specs.DecisionValue.{DecisionValue}
 use Rattle.arrayvec.specs.ArrayString.{ArrayString as CommandText}
 use Rattle.fibs_commands.specs.PlainCommands.{PlainValue}
 use Rattle.fibs_game.specs.declared.refusal.Refusal.{Refusal}
+use Rattle.fibs_session.specs.Fibs.{fibs}
 use Rattle.fibs_session.specs.declared.histories.refusal.PlainRefusal.{PlainRefusal}
 use Rattle.fibs_session.specs.History.Log.{Entry, Clicked, Sent, Ordered, Withdrawn}
 use Rattle.fibs_session.specs.History.Words.{last, open_from, open_now, shown}
@@ -17,7 +18,7 @@ use Rattle.fibs_connect.specs.Turns.Acts.{Act, answer_act}
 use Rattle.fibs_connect.specs.Turns.Script.{Did, Notes, outside}
 use Rattle.fibs_session.specs.Typing.{TypedValue, typed_decision, typed_plain, typed_order, typed_withdrawal, typed_none}
 use Rattle.fibs_connect.specs.Turns.Typing.{typed_step, typed_act}
-use Rattle.fibs_session.proofs.History.Past.{open_append}
+use Rattle.fibs_game.proofs.past.Past.{open_append}
 use Rattle.fibs_connect.proofs.TurnLemmas.Scripts.{did_alone, did_part, notes_nothing}
 
 -- it reads no byte, and neither opens nor loses
@@ -35,14 +36,14 @@ decides t d None = stays_itself t
 decides t d (Some b) = record {
   stream = refl;
   online = ap (λ n. not (nat_eq n 0))
-      (open_append 0 t.log (Clicked (open_now t.log) d None ∷ Sent (open_now t.log) b d ∷ []));
+      ((open_append fibs) 0 t.log (Clicked (open_now t.log) d None ∷ Sent (open_now t.log) b d ∷ []));
 }
 
 -- a decision that is answered leaves the stream and the connection
 clicks : (t : Talk) (d : DecisionValue) (a : Option Refusal) → Stays t (clicks_by t d a).talk
 clicks t d (Some why) = record {
   stream = refl;
-  online = ap (λ n. not (nat_eq n 0)) (open_append 0 t.log (Clicked (open_now t.log) d (Some why) ∷ []));
+  online = ap (λ n. not (nat_eq n 0)) ((open_append fibs) 0 t.log (Clicked (open_now t.log) d (Some why) ∷ []));
 }
 clicks t d None = decides t d (last (shown (open_now t.log) t.log))
 
@@ -57,7 +58,7 @@ orders : (t : Talk) (e : Entry) (why : Option Refusal) → ((o : ℕ) → open_f
 orders t e (Some why) same = stays_itself t
 orders t e None same = record {
   stream = refl;
-  online = ap (λ n. not (nat_eq n 0)) (open_append 0 t.log (e ∷ []) ∙ same (open_now t.log));
+  online = ap (λ n. not (nat_eq n 0)) ((open_append fibs) 0 t.log (e ∷ []) ∙ same (open_now t.log));
 }
 
 -- whatever is typed leaves the stream and the connection

@@ -1,31 +1,32 @@
 -- The client hands out commands.
-use Rattle.std.proofs.Common.{◌≡◌, ◌<◌, ℕ, List, [], ◌∷◌, ◌++◌, Option, Some, None, length, refl, sym, ap, subst, ◌∙◌, arith, append-nil, map}
+use Rattle.std.proofs.Common.{◌≡◌, ◌<◌, ℕ, List, [], ◌∷◌, ◌++◌, Option, Some, None, length, refl, sym, ap, subst, ◌∙◌, arith, append-nil, map, flat_map}
 use Rattle.fibs_fields.specs.Board.{BoardFields}
 use Rattle.fibs_position.specs.DecisionValue.{DecisionValue}
 use Rattle.fibs_commands.specs.PlainCommands.{PlainValue, plain_of}
 use Rattle.fibs_game.specs.declared.refusal.Refusal.{Refusal}
 use Rattle.fibs_session.specs.declared.histories.refusal.PlainRefusal.{PlainRefusal}
 use Rattle.fibs_session.specs.History.Log.{Entry, Clicked, Sent, Ordered, Withdrawn}
-use Rattle.fibs_session.specs.History.Words.{open_from, open_now, answer}
+use Rattle.fibs_session.specs.History.Words.{open_from, open_now, opened_by, answer}
 use Rattle.fibs_session.specs.History.Machine.{Talk, answer_now, shown_now, clicks_by, decides_on, plain_refusal, order_refusal, withdraw_refusal, wire_of, sends_plain as talk_sends_plain}
 use Rattle.fibs_session.specs.History.Machine as M
-use Rattle.fibs_session.specs.Calls.ClientLaws.{ServersEntriesAreSilent}
 use Rattle.fibs_session.specs.Calls.Standing.{StandsAfter}
 use Rattle.fibs_session.specs.Calls.Doing.{Does}
 use Rattle.fibs_model.specs.EntryOf.{entry_of}
 use Rattle.fibs_model.specs.declared.entry.Entry as C
-use Rattle.fibs_model.specs.Talks.{input_of}
+use Rattle.fibs_game.specs.Talks.{input_of}
 use Rattle.fibs_model.specs.Refusals.{refusal}
 use Rattle.fibs_model.specs.Calls.{ask_links, click_entries, unless_refused}
 use Rattle.fibs_model.specs.Events.{Event, Click, Plain, Order, Withdraw}
 use Rattle.fibs_model.specs.LinksOf.{LinkValue, kept_of, link_at, set_link}
 use Rattle.fibs_model.specs.Server.{command}
 use Rattle.fibs_model.specs.WireLinks.{more_asked}
-use Rattle.fibs_model.specs.World.{World, after, noted, linked, asks, clicks, sends_out, sends_plain, notes_unless, talk_of}
+use Rattle.fibs_model.specs.World.{World, after, client_does, noted, linked, talk_of}
+use Rattle.fibs_game.proofs.Stepping.{asks, does_is, newest, noted_is, stays_is}
 use Rattle.fibs_model.specs.WorldOf.{WorldValue, StandsFor, Goes}
-use Rattle.fibs_session.proofs.History.Words.{yes}
-use Rattle.fibs_model.proofs.joint.EachEvent.{said}
-use Rattle.fibs_session.proofs.History.Past.{open_append}
+use Rattle.fibs_game.proofs.past.Words.{yes}
+use Rattle.fibs_game.proofs.Refusing.{said}
+use Rattle.fibs_game.proofs.past.Past.{open_append}
+use Rattle.fibs_session.specs.Fibs.{fibs}
 use Rattle.fibs_model.specs.Wires as whole
 use Rattle.fibs_model.proofs.Likeness.Links.{links_linked, length_set_link}
 use Rattle.fibs_model.proofs.Likeness.Events.{current_known, client_after, sound_after}
@@ -77,7 +78,7 @@ asks_one v login w es send t s one some here = record {
       (current_known v login w s) d));
 }
 
-module _ (law : ServersEntriesAreSilent) (v v' : WorldValue) (send : List (List ℕ))
+module _ (v v' : WorldValue) (send : List (List ℕ))
     (server : v'.server ≡ v.server) (links : v'.links ≡ ask_links v.links v.current send)
     (current : v'.current ≡ v.current) where
   -- a call of the client that does what the machine's input does leads to the world after the event
@@ -92,9 +93,32 @@ module _ (law : ServersEntriesAreSilent) (v v' : WorldValue) (send : List (List 
     log = log ∙ ap (λ l. l ++ entries) s.log ∙ sym a.log;
     current = current ∙ s.current ∙ sym a.here;
     links = λ d. a.links d ∙ ap (λ ls. link_at ls d) (sym links);
-    client = client_after law login w e i v.client v'.client send s.sound may is does s.client;
+    client = client_after login w e i v.client v'.client send s.sound may is does s.client;
     sound = sound_after login w e s.sound may;
   }
+
+  -- a step of the client that notes entries, and hands out a command
+  asks_step : (login : List ℕ) (w : World) (es : List Entry) (t : List ℕ) → StandsFor v login w → send ≡ t ∷ []
+      → 0 < open_now w.log → open_now (w.log ++ es) ≡ open_now w.log → flat_map opened_by es ≡ []
+      → Asks v w (client_does w (λ l. l) (M.does (talk_of login w) es (t ∷ []))) send es
+  asks_step login w es t s one some here none =
+      subst (λ u. Asks v w u send es) ((does_is fibs) login w es (t ∷ []) s.sound.counted none)
+      (subst (λ n. Asks v w (asks (noted w es) n (t ∷ [])) send es) ((newest fibs) w s.sound some)
+      (asks_one v login w es send t s one some here))
+
+  -- one that does nothing
+  asks_none : (login : List ℕ) (w : World) → StandsFor v login w → send ≡ []
+      → Asks v w (client_does w (λ l. l) (M.stays (talk_of login w))) send []
+  asks_none login w s none =
+      subst (λ u. Asks v w u send []) ((stays_is fibs) login w s.sound.counted)
+      (record {
+        board = refl;
+        logged_in = refl;
+        count = refl;
+        log = sym (append-nil w.log);
+        here = refl;
+        links = λ d. s.links d ∙ ap (λ ts. link_at (ask_links v.links v.current ts) d) (sym none);
+      })
 
   -- a click
   pub clicked_stands : (d : DecisionValue) (a : Option Refusal) (b : Option BoardFields)
@@ -114,17 +138,19 @@ module _ (law : ServersEntriesAreSilent) (v v' : WorldValue) (send : List (List 
       refl refl does
     where
       go : (x : Option Refusal) → answer w.log d ≡ x → send ≡ (clicks_by (talk_of login w) d x).send
-          → Asks v w (clicks (open_now w.log) w d x) send
+          → Asks v w (client_does w (λ l. l) (clicks_by (talk_of login w) d x)) send
           (click_entries (open_now w.log) d x (shown_now (talk_of login w)))
-      go (Some x) e none = asks_nothing v login w (Clicked (open_now w.log) d (Some x)) send s none
-          (open_append 0 w.log (Clicked (open_now w.log) d (Some x) ∷ []))
+      go (Some x) e none =
+          let es : List Entry = Clicked (open_now w.log) d (Some x) ∷ [] in
+          subst (λ u. Asks v w u send es) ((noted_is fibs) login w es s.sound.counted refl)
+          (asks_nothing v login w (Clicked (open_now w.log) d (Some x)) send s none ((open_append fibs) 0 w.log es))
       go None e one =
-          let y = yes w.log d e in
+          let y = (yes fibs) w.log d e in
+          let es : List Entry = Clicked (open_now w.log) d None ∷ Sent (open_now w.log) y.on d ∷ [] in
           subst (λ o. send ≡ (decides_on (talk_of login w) d o).send
-          → Asks v w (sends_out (open_now w.log) w d o) send (click_entries (open_now w.log) d None o)) (sym y.is_last)
-          (λ one. asks_one v login w (Clicked (open_now w.log) d None ∷ Sent (open_now w.log) y.on d ∷ []) send
-          (command y.on d) s one y.some
-          (open_append 0 w.log (Clicked (open_now w.log) d None ∷ Sent (open_now w.log) y.on d ∷ []))) one
+          → Asks v w (client_does w (λ l. l) (decides_on (talk_of login w) d o)) send
+          (click_entries (open_now w.log) d None o)) (sym y.is_last)
+          (λ one. asks_step login w es (command y.on d) s one y.some ((open_append fibs) 0 w.log es) refl) one
 
   -- a plain command
   pub said_stands : (p : PlainValue) → v'.log ≡ v.log → Does v.client v'.client (M.PlainInput p) send
@@ -135,56 +161,43 @@ module _ (law : ServersEntriesAreSilent) (v v' : WorldValue) (send : List (List 
       (go (plain_refusal t p) refl (does.hands t s.client)) refl refl does
     where
       go : (x : Option PlainRefusal) → plain_refusal (talk_of login w) p ≡ x
-          → send ≡ (talk_sends_plain (talk_of login w) p x).send → Asks v w (sends_plain w p x) send []
-      go (Some why) e none = record {
-        board = refl;
-        logged_in = refl;
-        count = refl;
-        log = sym (append-nil w.log);
-        here = refl;
-        links = λ d. s.links d ∙ ap (λ ts. link_at (ask_links v.links v.current ts) d) (sym none);
-      }
+          → send ≡ (talk_sends_plain (talk_of login w) p x).send
+          → Asks v w (client_does w (λ l. l) (talk_sends_plain (talk_of login w) p x)) send []
+      go (Some why) e none = asks_none login w s none
       go None e one =
-          let a = asks_one v login w [] send (plain_of p) s one (said login w p e).0 (ap open_now (append-nil w.log)) in
-          record {
-            board = refl;
-            logged_in = refl;
-            count = refl;
-            log = sym (append-nil w.log);
-            here = refl;
-            links =
-                λ d. a.links d;
-          }
+          asks_step login w [] (plain_of p) s one ((said fibs) (talk_of login w) p e).0
+          (ap open_now (append-nil w.log)) refl
 
   -- an order is given or withdrawn, or refused
   noted_or_not : (e : Event) (i : M.InputValue) (note : ℕ → Entry) (refuse : List Entry → Option Refusal)
-      → ((login : List ℕ) (w : World) → after login w e ≡ notes_unless w (note (open_now w.log)) (refuse w.log))
+      → ((login : List ℕ) (w : World)
+      → after login w e
+      ≡ client_does w (λ l. l) (M.notes_if (talk_of login w) (note (open_now w.log)) (refuse w.log)))
       → ((w : World) → refusal w e ≡ None) → ((w : World) → input_of w e ≡ Some i)
-      → ((o n : ℕ) → open_from o (note n ∷ []) ≡ o) → send ≡ [] → (o : Option Refusal)
+      → ((o n : ℕ) → open_from o (note n ∷ []) ≡ o) → ((n : ℕ) → flat_map opened_by (note n ∷ []) ≡ [])
+      → send ≡ [] → (o : Option Refusal)
       → v'.log ≡ v.log ++ unless_refused o (note v.current)
       → ((t : Talk) → StandsAfter v.client t → o ≡ refuse t.log) → Does v.client v'.client i send → Goes v v' e
-  noted_or_not e i note refuse is may input silent none o log answers does login w s =
+  noted_or_not e i note refuse is may input silent opens none o log answers does login w s =
       stands_on login w e i (unless_refused o (note v.current)) s log
       (subst (λ x. Asks v w x send (unless_refused o (note v.current))) (sym (is login w))
-      (subst (λ n. Asks v w (notes_unless w (note (open_now w.log)) (refuse w.log)) send (unless_refused o (note n)))
-      (sym s.current)
-      (subst (λ x. Asks v w (notes_unless w (note (open_now w.log)) (refuse w.log)) send
-      (unless_refused x (note (open_now w.log)))) (sym (answers (talk_of login w) s.client)) (go (refuse w.log)))))
+      (subst (λ n. Asks v w (by (refuse w.log)) send (unless_refused o (note n))) (sym s.current)
+      (subst (λ x. Asks v w (by (refuse w.log)) send (unless_refused x (note (open_now w.log))))
+      (sym (answers (talk_of login w) s.client)) (go (refuse w.log)))))
       (may w) (input w) does
     where
+      by : Option Refusal → World
+      by x = client_does w (λ l. l) (M.notes_if (talk_of login w) (note (open_now w.log)) x)
+
       go : (x : Option Refusal)
-          → Asks v w (notes_unless w (note (open_now w.log)) x) send (unless_refused x (note (open_now w.log)))
-      go (Some why) = record {
-        board = refl;
-        logged_in = refl;
-        count = refl;
-        log = sym (append-nil w.log);
-        here = refl;
-        links = λ d. s.links d ∙ ap (λ ts. link_at (ask_links v.links v.current ts) d) (sym none);
-      }
+          → Asks v w (client_does w (λ l. l) (M.notes_if (talk_of login w) (note (open_now w.log)) x)) send
+          (unless_refused x (note (open_now w.log)))
+      go (Some why) = asks_none login w s none
       go None =
-          asks_nothing v login w (note (open_now w.log)) send s none
-          (open_append 0 w.log (note (open_now w.log) ∷ []) ∙ silent (open_now w.log) (open_now w.log))
+          subst (λ u. Asks v w u send (note (open_now w.log) ∷ []))
+          ((noted_is fibs) login w (note (open_now w.log) ∷ []) s.sound.counted (opens (open_now w.log)))
+          (asks_nothing v login w (note (open_now w.log)) send s none
+          ((open_append fibs) 0 w.log (note (open_now w.log) ∷ []) ∙ silent (open_now w.log) (open_now w.log)))
 
   -- a standing order is given
   pub ordered_stands : send ≡ [] → (o : Option Refusal) → v'.log ≡ v.log ++ unless_refused o (Ordered v.current)
@@ -192,6 +205,7 @@ module _ (law : ServersEntriesAreSilent) (v v' : WorldValue) (send : List (List 
       → Goes v v' Order
   ordered_stands =
       noted_or_not Order M.Order Ordered order_refusal (λ login w. refl) (λ w. refl) (λ w. refl) (λ o n. refl)
+      (λ n. refl)
 
   -- and withdrawn
   pub withdrawn_stands : send ≡ [] → (o : Option Refusal) → v'.log ≡ v.log ++ unless_refused o (Withdrawn v.current)
@@ -199,7 +213,7 @@ module _ (law : ServersEntriesAreSilent) (v v' : WorldValue) (send : List (List 
       → Goes v v' Withdraw
   withdrawn_stands =
       noted_or_not Withdraw M.Withdraw Withdrawn withdraw_refusal (λ login w. refl) (λ w. refl) (λ w. refl)
-      (λ o n. refl)
+      (λ o n. refl) (λ n. refl)
 
 -- after a growth
 pub asked_after : (links grown new : List LinkValue) (c : ℕ) (send : List (List ℕ)) → grown ≡ links

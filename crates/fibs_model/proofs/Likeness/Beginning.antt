@@ -13,8 +13,9 @@ use Rattle.fibs_model.specs.Wires.{empty_link}
 use Rattle.fibs_model.specs.World.{start}
 use Rattle.fibs_model.specs.WorldCalls.{WorldStandsAfter}
 use Rattle.fibs_model.specs.WorldOf.{WorldValue, StandsFor}
-use Rattle.fibs_model.specs.declared.machine.refusal.WorldRefusal.TheVariants.{BadBoard}
-use Rattle.fibs_model.proofs.Projection.{talk_is_projected}
+use Rattle.fibs_game.specs.declared.world_refusal.WorldRefusal.TheVariants.{BadBoard}
+use Rattle.fibs_game.proofs.Sound.{talk_is_projected}
+use Rattle.fibs_session.specs.Fibs.{fibs}
 
 -- it corresponds to the machine's
 pub new_stands : (v : WorldValue) (login : List ℕ) (b : BoardFields) → v.server.board ≡ b → v.server.logged_in ≡ 0
@@ -28,7 +29,7 @@ new_stands v login b board who links log current client = record {
   current = current;
   links = λ c. none c ∙ ap (λ ls. link_at ls c) (sym links);
   client = client;
-  sound = talk_is_projected.starts b;
+  sound = (talk_is_projected fibs).starts b;
 }
   where
     none : (c : ℕ) → kept_of empty_link ≡ link_at [] c

@@ -13,7 +13,8 @@ use Rattle.fibs_model.specs.World.{World, after, start}
 use Rattle.fibs_model.specs.WorldOf.{WorldValue, StandsFor, May}
 use Rattle.fibs_model.specs.declared.carriers.carrier.Way.TheVariants.{ToServer, ToClient}
 use Rattle.fibs_model.specs.declared.world.link.Link.{Link}
-use Rattle.fibs_model.proofs.joint.EachEvent.{served}
+use Rattle.fibs_game.proofs.Refusing.{served}
+use Rattle.fibs_session.specs.Fibs.{fibs}
 use Rattle.fibs_model.proofs.Likeness.Links.{link_was}
 
 -- the wires of a connection are l
@@ -58,7 +59,7 @@ some_line o p e = subst IsSome (sym e) refl
 pub serve_whole : (v : WorldValue) (login : List ℕ) (w : World) (c d1 d2 : ℕ) (links : List LinkValue)
     → StandsFor v login w → May v (Serve c d1 d2) → links ≡ v.links → IsSome (next_line (link_at links c).asked)
 serve_whole v login w c d1 d2 links s may same =
-    let r = served w c d1 d2 (may login w s) in
+    let r = (served fibs) w c d1 d2 (may login w s) in
     subst (λ ls. IsSome (next_line (link_at ls c).asked)) (sym same)
     (subst (λ (l : LinkValue). IsSome (next_line l.asked)) (s.links c) (some_line _ r.line r.next))
 

@@ -20,7 +20,7 @@ use Rattle.fibs_session.specs.History.Owing.{owed_on, owed, entries_owed, lines_
 use Rattle.fibs_session.specs.History.Words.{open_now}
 use Rattle.fibs_model.specs.EntryOf.{roll_entries}
 use Rattle.fibs_model.specs.HearingOf.{HearsPiece, IsTalking, RoomForLine, RoomForPiece}
-use Rattle.fibs_session.proofs.History.Lists.{other_number}
+use Rattle.fibs_game.proofs.past.Lists.{other_number}
 use Rattle.fibs_session.proofs.History.Joins.{all_open}
 
 -- a client with an open connection is online

@@ -9,7 +9,7 @@ use Rattle.fibs_model.specs.LinksOf.{LinkValue, no_link, kept_of, link_of, seen,
 use Rattle.fibs_model.specs.WireLinks.{more_asked, more_coming, cut_off}
 use Rattle.fibs_model.specs.World.{World, linked}
 use Rattle.fibs_model.specs.declared.world.link.Link.{Link}
-use Rattle.fibs_session.proofs.History.Lists.{same_number, other_number}
+use Rattle.fibs_game.proofs.past.Lists.{same_number, other_number}
 use Rattle.fibs_model.proofs.Likeness.Whole.{kept_if}
 
 -- the element of a connection

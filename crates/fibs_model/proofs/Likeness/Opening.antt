@@ -6,19 +6,20 @@ use Rattle.fibs_session.specs.History.Log as L
 use Rattle.fibs_session.specs.History.Words.{open_now}
 use Rattle.fibs_session.specs.History.Machine.{Outcome, stays, opened, on_wire}
 use Rattle.fibs_session.specs.History.Machine as M
-use Rattle.fibs_session.specs.Calls.ClientLaws.{ServersEntriesAreSilent}
 use Rattle.fibs_session.specs.Calls.Doing.{Does}
 use Rattle.fibs_model.specs.Events.{Open}
 use Rattle.fibs_model.specs.LinksOf.{LinkValue, no_link, kept_of, link_of, seen, link_at}
 use Rattle.fibs_model.specs.WireLinks.{more_asked}
 use Rattle.fibs_model.specs.World.{World, talk_of}
 use Rattle.fibs_model.specs.WorldOf.{WorldValue, StandsFor, Goes, May}
-use Rattle.fibs_model.specs.declared.machine.refusal.WorldRefusal.TheVariants.{AlreadyOpen}
-use Rattle.fibs_session.proofs.History.Past.{open_append}
+use Rattle.fibs_game.specs.declared.world_refusal.WorldRefusal.TheVariants.{AlreadyOpen}
+use Rattle.fibs_game.proofs.Stepping.{opens_is}
+use Rattle.fibs_game.proofs.past.Past.{open_append}
+use Rattle.fibs_session.specs.Fibs.{fibs}
 use Rattle.fibs_model.specs.Wires as whole
 use Rattle.fibs_model.proofs.Likeness.Whole.{kept_if}
 use Rattle.fibs_model.proofs.Likeness.Links.{link_at_push, link_at_none, value_path}
-use Rattle.fibs_model.proofs.Likeness.Events.{client_after, sound_after}
+use Rattle.fibs_model.proofs.Likeness.Events.{client_after, sound_after, stands_by}
 
 -- the new wires
 abbrev pub new_link : List ℕ → LinkValue
@@ -33,7 +34,7 @@ closed false h = cc
 first : (a b : List ℕ) → a ∷ [] ≡ b ∷ [] → a ≡ b
 first a b h = cc
 
-module _ (law : ServersEntriesAreSilent) (v v' : WorldValue) (text : List ℕ)
+module _ (v v' : WorldValue) (text : List ℕ)
     (server : v'.server ≡ v.server) (links : v'.links ≡ v.links ++ new_link text ∷ [])
     (log : v'.log ≡ v.log ++ L.Opened (length v.links + 1) ∷ [])
     (current : v'.current ≡ length v.links + 1) (does : Does v.client v'.client M.Open (text ∷ [])) (may : May v Open)
@@ -56,13 +57,16 @@ module _ (law : ServersEntriesAreSilent) (v v' : WorldValue) (text : List ℕ)
         let wires : more_asked (kept_of (w.links (w.count + 1))) (on_wire login ++ []) ≡ new_link text =
         ap (λ l. more_asked l (on_wire login ++ [])) none
         ∙ ap new_asked (append-nil (on_wire login) ∙ ap on_wire (sym is)) in
-        record {
+        stands_by v' login _ _
+        ((opens_is fibs) login w s.sound (closed (nat_eq (open_now w.log) 0) r))
+        (client_after login w Open M.Open v.client v'.client (text ∷ []) s.sound r refl does s.client)
+        (sound_after login w Open s.sound r) (λ client sound. record {
           board = ap (λ x. x.board) server ∙ s.board;
           logged_in = ap (λ x. x.logged_in) server ∙ s.logged_in;
           count = ap length links ∙ length-append v.links (new_link text ∷ []) ∙ number;
           log =
               log ∙ ap (λ l. l ++ L.Opened (length v.links + 1) ∷ []) s.log ∙ ap (λ n. w.log ++ L.Opened n ∷ []) number;
-          current = current ∙ number ∙ sym (open_append 0 w.log (L.Opened (w.count + 1) ∷ []));
+          current = current ∙ number ∙ sym ((open_append fibs) 0 w.log (L.Opened (w.count + 1) ∷ []));
           links = λ d.
               kept_if (nat_eq d (w.count + 1)) (whole.more_asked (w.links (w.count + 1)) (on_wire login ++ []))
               (w.links d)
@@ -71,9 +75,9 @@ module _ (law : ServersEntriesAreSilent) (v v' : WorldValue) (text : List ℕ)
               ∙ ap (λ n. if nat_eq d n then new_link text else link_at v.links d) (sym number)
               ∙ sym (link_at_push v.links d (new_link text))
               ∙ ap (λ ls. link_at ls d) (sym links);
-          client = client_after law login w Open M.Open v.client v'.client (text ∷ []) s.sound r refl does s.client;
-          sound = sound_after login w Open s.sound r;
-        }
+          client = client;
+          sound = sound;
+        })
       where
         new_asked : List ℕ → LinkValue
         new_asked bytes = record { coming = []; asked = bytes; fresh = true }

@@ -10,7 +10,7 @@ use Rattle.fibs_model.specs.Refusals.{refusal}
 use Rattle.fibs_model.specs.World.{World}
 use Rattle.fibs_model.specs.WorldCalls.{WorldStandsAfter, machine_after, Tells, Stops}
 use Rattle.fibs_model.specs.WorldOf.{WorldValue}
-use Rattle.fibs_model.specs.declared.machine.refusal.WorldRefusal.{WorldRefusal}
+use Rattle.fibs_game.specs.declared.world_refusal.WorldRefusal.{WorldRefusal}
 
 -- the headline holds of a world that is reached
 pub headline_of : HeadlineHolds → (v : WorldValue) (name password : List ℕ) (first : BoardFields) (es : List Event)

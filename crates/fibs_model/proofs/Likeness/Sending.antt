@@ -4,22 +4,23 @@ use Rattle.std.proofs.lemmas.Bool.{eqb-true}
 use Rattle.std.specs.Prelude.{Result, Ok, Err, IsOk, OnOk}
 use Rattle.std.specs.Result.{result_err}
 use Rattle.fibs_model.specs.Server.{own_refusal}
-use Rattle.fibs_model.specs.declared.machine.refusal.WorldRefusal.{WorldRefusal}
+use Rattle.fibs_game.specs.declared.world_refusal.WorldRefusal.{WorldRefusal}
 use Rattle.fibs_fields.specs.Board.{BoardFields, spelling}
 use Rattle.fibs_session.specs.History.Words.{open_now}
 use Rattle.fibs_session.specs.History.Machine.{on_wire}
 use Rattle.fibs_session.specs.Calls.ClientLaws.{ServersEntriesAreSilent}
 use Rattle.fibs_session.specs.Calls.Standing.{StandsAfter}
 use Rattle.fibs_model.specs.Calls.{send_links}
-use Rattle.fibs_model.specs.Talks.{input_of}
+use Rattle.fibs_game.specs.Talks.{input_of}
 use Rattle.fibs_model.specs.Events.{Event, Own, Repeat, Text}
 use Rattle.fibs_model.specs.LinksOf.{LinkValue, kept_of, link_at, set_link}
 use Rattle.fibs_model.specs.Refusals.{refusal}
 use Rattle.fibs_model.specs.WireLinks.{more_coming}
 use Rattle.fibs_model.specs.World.{World, after, linked, is_talking, sends, talk_of}
 use Rattle.fibs_model.specs.WorldOf.{WorldValue, StandsFor, Goes, May}
-use Rattle.fibs_model.proofs.joint.Sending.{if_fact, some_of}
-use Rattle.fibs_session.proofs.History.Lists.{and_left, and_right}
+use Rattle.fibs_game.proofs.joint.Sending.{if_fact, some_of}
+use Rattle.fibs_session.specs.Fibs.{fibs}
+use Rattle.fibs_game.proofs.past.Lists.{and_left, and_right}
 use Rattle.fibs_model.specs.Wires as whole
 use Rattle.fibs_model.proofs.Likeness.Links.{links_linked, length_set_link}
 use Rattle.fibs_model.proofs.Likeness.Events.{current_known, client_waits, sound_after}
@@ -33,13 +34,13 @@ pub record Rest (w w' : World) : Type 0 where
 
 -- a line that is sent leaves all of the world but the wires
 pub sends_rest : (w : World) (t : List ℕ) → Rest w (sends w t)
-sends_rest w t = if_fact (Rest w) (is_talking w) _ _
+sends_rest w t = (if_fact fibs) (Rest w) (is_talking w) _ _
     (λ z. record { board = refl; logged_in = refl; count = refl; log = refl })
     (λ z. record { board = refl; logged_in = refl; count = refl; log = refl })
 
 -- a line that is sent leaves as many connections as there were
 pub length_sent : (l c : ℕ) (links : List LinkValue) (line : List ℕ) → length (send_links l c links line) ≡ length links
-length_sent l c links line = if_fact (λ ls. length ls ≡ length links) (nat_eq c l && not (nat_eq l 0)) _ _
+length_sent l c links line = (if_fact fibs) (λ ls. length ls ≡ length links) (nat_eq c l && not (nat_eq l 0)) _ _
     (λ z. length_set_link links c _) (λ z. refl)
 
 -- the wires after it, if l is logged in, and c open
@@ -60,7 +61,7 @@ sent_links w links l c line same is here known d =
     go true e =
         let k : open_now w.log ≡ w.logged_in = eqb-true _ _ (and_left _ _ e) in
         let within : w.logged_in ≤ length links = omega (arith, known, k, here) in
-        let some : 0 < w.logged_in = some_of w.logged_in (and_right _ _ e) in
+        let some : 0 < w.logged_in = (some_of fibs) w.logged_in (and_right _ _ e) in
         subst (λ n. kept_of ((linked w w.logged_in (whole.more_coming (w.links w.logged_in) (on_wire line))).links d)
         ≡ link_at (set_link links n (more_coming (link_at links n) (on_wire line))) d) (sym k)
         (links_linked w links w.logged_in _ (whole.more_coming (w.links w.logged_in) (on_wire line)) same

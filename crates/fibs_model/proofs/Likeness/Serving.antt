@@ -19,9 +19,10 @@ use Rattle.fibs_model.specs.Wires.{next_line}
 use Rattle.fibs_model.specs.WireLinks.{taken}
 use Rattle.fibs_model.specs.World.{World, after, linked, noted, sends, serves, does_served, talk_of}
 use Rattle.fibs_model.specs.WorldOf.{WorldValue, StandsFor, Goes, May}
-use Rattle.fibs_model.proofs.Answering.{answered_at as answered}
-use Rattle.fibs_model.proofs.joint.EachEvent.{served}
-use Rattle.fibs_session.proofs.History.Past.{open_append}
+use Rattle.fibs_game.proofs.Answering.{answered_at}
+use Rattle.fibs_session.specs.Fibs.{fibs}
+use Rattle.fibs_game.proofs.Refusing.{served}
+use Rattle.fibs_game.proofs.past.Past.{open_append}
 use Rattle.fibs_model.proofs.Likeness.Whole.{some_taken}
 use Rattle.fibs_model.proofs.Likeness.Links.{links_linked, length_set_link, value_path}
 use Rattle.fibs_model.proofs.Likeness.Sending.{sent_links, sends_rest, length_sent}
@@ -73,7 +74,7 @@ fits_served server links log current c w LoggedIn known f = record {
   logged_in = refl;
   count = f.count;
   log = ap (λ l. l ++ L.LoggedIn c ∷ []) f.log;
-  current = f.current ∙ sym (open_append 0 w.log (L.LoggedIn c ∷ []));
+  current = f.current ∙ sym ((open_append fibs) 0 w.log (L.LoggedIn c ∷ []));
   links = f.links;
 }
 fits_served server links log current c w (Took d b) known f =
@@ -84,7 +85,7 @@ fits_served server links log current c w (Took d b) known f =
       logged_in = f.logged_in;
       count = f.count;
       log = ap (λ l. l ++ L.Took c server.board d ∷ []) f.log ∙ ap (λ x. w.log ++ L.Took c x d ∷ []) f.board;
-      current = f.current ∙ sym (open_append 0 w.log (L.Took c w.board d ∷ []));
+      current = f.current ∙ sym ((open_append fibs) 0 w.log (L.Took c w.board d ∷ []));
       links = f.links;
     })
 fits_served server links log current c w (Undone d) known f =
@@ -96,7 +97,7 @@ fits_served server links log current c w (Undone d) known f =
       logged_in = f.logged_in;
       count = f.count;
       log = ap (λ l. l ++ L.Undone c server.board d ∷ []) f.log ∙ ap (λ x. w.log ++ L.Undone c x d ∷ []) f.board;
-      current = f.current ∙ sym (open_append 0 w.log (L.Undone c w.board d ∷ []));
+      current = f.current ∙ sym ((open_append fibs) 0 w.log (L.Undone c w.board d ∷ []));
       links = f.links;
     }))
 fits_served server links log current c w Answered known f =
@@ -123,7 +124,7 @@ module _ (law : ServersEntriesAreSilent) (v v' : WorldValue) (c d1 d2 : ℕ) (s 
   fits : (login : List ℕ) (w : World) → StandsFor v login w
       → Fits v'.server v'.links v'.log v'.current (after login w (Serve c d1 d2))
   fits login w h =
-      let r = served w c d1 d2 (may login w h) in
+      let r = (served fibs) w c d1 d2 (may login w h) in
       let p = takes.line in
       let found : next_line (w.links c).asked ≡ Some p =
       ap (λ (l : LinkValue). next_line l.asked) (h.links c) ∙ takes.next in
@@ -142,11 +143,11 @@ module _ (law : ServersEntriesAreSilent) (v v' : WorldValue) (c d1 d2 : ℕ) (s 
       } in
       let many : length wires ≡ length v.links = ap length takes.links ∙ length_set_link v.links c _ in
       let after_it = fits_served v.server wires v.log v.current c w1 s (omega (arith, many, known)) before in
-      let is : s ≡ answered w.board w.logged_in c (is_empty (w.links c).served) p.0 d1 d2 =
+      let is : s ≡ (answered_at fibs) w.board w.logged_in c (is_empty (w.links c).served) p.0 d1 d2 =
       takes.answer
-      ∙ ap (λ b. answered b v.server.logged_in c (link_at v.links c).fresh p.0 d1 d2) h.board
-      ∙ ap (λ n. answered w.board n c (link_at v.links c).fresh p.0 d1 d2) h.logged_in
-      ∙ ap (λ (l : LinkValue). answered w.board w.logged_in c l.fresh p.0 d1 d2) (sym (h.links c)) in
+      ∙ ap (λ b. (answered_at fibs) b v.server.logged_in c (link_at v.links c).fresh p.0 d1 d2) h.board
+      ∙ ap (λ n. (answered_at fibs) w.board n c (link_at v.links c).fresh p.0 d1 d2) h.logged_in
+      ∙ ap (λ (l : LinkValue). (answered_at fibs) w.board w.logged_in c l.fresh p.0 d1 d2) (sym (h.links c)) in
       subst (λ o. Fits v'.server v'.links v'.log v'.current (serves c w d1 d2 o)) (sym found)
       (subst (λ x. Fits v'.server v'.links v'.log v'.current (does_served c w1 x)) is
       (subst (λ x. Fits v'.server v'.links v'.log x (does_served c w1 s)) (sym current)
@@ -176,7 +177,7 @@ module _ (law : ServersEntriesAreSilent) (v v' : WorldValue) (c d1 d2 : ℕ) (s 
 -- the connection is one of those
 pub serve_known : (v : WorldValue) (login : List ℕ) (w : World) (c d1 d2 : ℕ) → StandsFor v login w
     → May v (Serve c d1 d2) → c ≤ length v.links
-serve_known v login w c d1 d2 s may = let r = served w c d1 d2 (may login w s) in omega (arith, r.known, s.count)
+serve_known v login w c d1 d2 s may = let r = (served fibs) w c d1 d2 (may login w s) in omega (arith, r.known, s.count)
 
 -- after a growth
 pub takes_after : (old new : ServerValue) (links grown after : List LinkValue) (c d1 d2 : ℕ) (s : Served)

@@ -14,15 +14,20 @@ use Rattle.fibs_model.specs.Refusals.{refusal}
 use Rattle.fibs_model.specs.Runs.{AllAccepted, MayBe, after_all, world_after}
 use Rattle.fibs_model.specs.Wires.{next_line}
 use Rattle.fibs_model.specs.World.{World, after, start}
-use Rattle.fibs_model.specs.declared.machine.refusal.WorldRefusal.{WorldRefusal}
-use Rattle.fibs_model.specs.declared.machine.refusal.WorldRefusal.TheVariants.{NotOpen, BadDice}
+use Rattle.fibs_game.specs.declared.world_refusal.WorldRefusal.{WorldRefusal}
+use Rattle.fibs_game.specs.declared.world_refusal.WorldRefusal.TheVariants.{NotOpen, BadDice}
 use Rattle.fibs_model.specs.Settling.{Settled, settle_refusal}
 use Rattle.fibs_model.specs.WorldCalls.{WorldStandsAfter, machine_after, Agrees}
 use Rattle.fibs_model.specs.LinksOf.{LinkValue, kept_of, link_at, no_link}
 use Rattle.fibs_model.specs.WorldOf.{WorldValue, StandsFor}
-use Rattle.fibs_session.proofs.History.Lists.{and_left, and_right}
-use Rattle.fibs_model.proofs.OnceLemmas.{all_append}
+use Rattle.fibs_game.proofs.past.Lists.{and_left, and_right}
 use Rattle.fibs_model.proofs.Likeness.Stepping.{IsTold, if_told, stands_for}
+
+-- events after events
+all_append : (login : List ℕ) (w : World) (xs ys : List Event)
+    → after_all login w (xs ++ ys) ≡ after_all login (after_all login w xs) ys
+all_append login w [] ys = refl
+all_append login w (e ∷ xs) ys = all_append login (after login w e) xs ys
 
 -- the same, from the first board on
 after_several : (login : List ℕ) (first : BoardFields) (before es : List Event)

@@ -15,8 +15,8 @@ use Rattle.fibs_model.specs.Wires.{next_line}
 use Rattle.fibs_model.specs.World.{World, after, start}
 use Rattle.fibs_model.specs.WorldCalls.{WorldStandsAfter, machine_after, Agrees}
 use Rattle.fibs_model.specs.WorldOf.{WorldValue, StandsFor, Goes}
-use Rattle.fibs_model.specs.declared.machine.refusal.WorldRefusal.{WorldRefusal}
-use Rattle.fibs_model.specs.declared.machine.refusal.WorldRefusal.TheVariants.{Memory, AlreadyOpen, NotOpen, NoSuchConnection, NothingToServe, UserDecides, BoardAsText, BadBoard, BadDice}
+use Rattle.fibs_game.specs.declared.world_refusal.WorldRefusal.{WorldRefusal}
+use Rattle.fibs_game.specs.declared.world_refusal.WorldRefusal.TheVariants.{Memory, AlreadyOpen, NotOpen, NoSuchConnection, NothingToServe, UserDecides, BoardAsText, BadBoard, BadDice}
 
 -- The table of refusals does not say that memory ran out.
 

@@ -9,7 +9,8 @@ use Rattle.fibs_model.specs.Wires.{next_line}
 use Rattle.fibs_model.specs.WireLinks.{taken}
 use Rattle.fibs_model.specs.WireOf.{WireValue}
 use Rattle.fibs_model.specs.declared.world.link.Link.{Link}
-use Rattle.fibs_model.proofs.Answering.{answered_at}
+use Rattle.fibs_game.proofs.Answering.{answered_at}
+use Rattle.fibs_session.specs.Fibs.{fibs}
 use Rattle.fibs_model.proofs.Likeness.Links.{link_set, link_was, value_path}
 
 -- the wires l of a connection become k
@@ -30,7 +31,9 @@ module _ (links : List Link) (c : ℕ) (l k : Link) (some : 0 < c) (known : c �
       record {
         line = (take len asked, drop (len + 2) asked);
         next = ap (λ (x : LinkValue). next_line x.asked) was ∙ next;
-        answer = t.answer ∙ ap (λ (x : LinkValue). answered_at old.board old.logged_in c x.fresh (take len asked) d1 d2)
+        answer =
+            t.answer ∙ ap (λ (x : LinkValue). (answered_at fibs) old.board old.logged_in c x.fresh (take len asked) d1
+                d2)
             (sym was);
         server = t.server;
         links = link_set links c k _

@@ -62,7 +62,6 @@ impl World {
         ensures ok { OnOk result (Goes self.old self.new (E.Click (decision_of decision.now))) }
         ensures err { OnErr result (self.new ≡ self.old) }
     {
-        fibs_session::client::laws::servers_entries_are_silent();
         self.log.reserve(2)?;
         make_room(&mut self.links, self.current, 0, COMMAND)?;
         let shown = self.client.shown().copied();
@@ -77,7 +76,6 @@ impl World {
         ensures ok { OnOk result (Goes self.old self.new (E.Plain (plain_value plain.now))) }
         ensures err { OnErr result (self.new ≡ self.old) }
     {
-        fibs_session::client::laws::servers_entries_are_silent();
         make_room(&mut self.links, self.current, 0, COMMAND)?;
         let answer = self.client.plain(plain);
         hand_out(&mut self.links, self.current, &answer);

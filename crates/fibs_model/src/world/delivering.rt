@@ -106,7 +106,6 @@ impl World {
         ensures untouched { IsErrOf result Halt.Memory → carrier.new ≡ carrier.old }
         ensures unbroken { IsErrOf result Halt.Broken → C.may_break ≡ true }
     {
-        fibs_session::client::laws::servers_entries_are_silent();
         let ends = ends_ahead(&self.links, self.current, n);
         let most = most_added(ends, self.client.ordered()).ok_or(AllocError)?;
         make_room(&mut self.links, self.current, 0, most.bytes)?;

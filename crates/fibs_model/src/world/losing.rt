@@ -22,7 +22,6 @@ impl World {
         ensures untouched { IsErrOf result Halt.Memory → carrier.new ≡ carrier.old }
         ensures unbroken { IsErrOf result Halt.Broken → C.may_break ≡ true }
     {
-        fibs_session::client::laws::servers_entries_are_silent();
         self.log.reserve(1)?;
         hang_up(carrier, &self.links, self.current, kept)?;
         cut(&mut self.links, self.current, kept);

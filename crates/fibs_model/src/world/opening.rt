@@ -23,7 +23,6 @@ impl World {
         ensures untouched { IsErrOf result Halt.Memory → carrier.new ≡ carrier.old }
         ensures unbroken { IsErrOf result Halt.Broken → C.may_break ≡ true }
     {
-        fibs_session::client::laws::servers_entries_are_silent();
         self.log.reserve(1)?;
         self.links.reserve(1)?;
         let mut to_server = Wire::with_room(self.alloc, COMMAND)?;

@@ -29,7 +29,6 @@ impl World {
         ensures ok { OnOk result (Goes self.old self.new E.Order) }
         ensures err { OnErr result (self.new ≡ self.old) }
     {
-        fibs_session::client::laws::servers_entries_are_silent();
         self.log.reserve(1)?;
         let answer = self.client.order_roll();
         let entry = Entry::Ordered { conn: self.current };
@@ -42,7 +41,6 @@ impl World {
         ensures ok { OnOk result (Goes self.old self.new E.Withdraw) }
         ensures err { OnErr result (self.new ≡ self.old) }
     {
-        fibs_session::client::laws::servers_entries_are_silent();
         self.log.reserve(1)?;
         let answer = self.client.withdraw_roll();
         let entry = Entry::Withdrawn { conn: self.current };

@@ -11,8 +11,8 @@ use Rattle.fibs_model.specs.Runs.{world_after}
 use Rattle.fibs_model.specs.WorldOf.{WorldValue}
 use Rattle.fibs_model.specs.declared.halt.Stop.{Stop}
 use Rattle.fibs_model.specs.declared.halt.Stop.TheVariants as S
-use Rattle.fibs_model.specs.declared.machine.refusal.WorldRefusal.{WorldRefusal}
-use Rattle.fibs_model.specs.declared.machine.refusal.WorldRefusal.TheVariants as W
+use Rattle.fibs_game.specs.declared.world_refusal.WorldRefusal.{WorldRefusal}
+use Rattle.fibs_game.specs.declared.world_refusal.WorldRefusal.TheVariants as W
 use Rattle.fibs_engine.specs.Printing.{Printed}
 use Rattle.fibs_engine.specs.declared.fault.EngineFault.{EngineFault}
 use Rattle.fibs_engine.specs.declared.fault.EngineFault.TheVariants as fault

@@ -12,7 +12,7 @@ use Rattle.fibs_game.specs.declared.refusal.Refusal.{Refusal}
 use Rattle.fibs_session.specs.History.Log.{Entry, Shown}
 use Rattle.fibs_session.specs.History.Orders.{is_to_roll, is_due, DueOrders}
 use Rattle.fibs_session.specs.History.Words.{is_ordered, is_given, orders_by, last, answer}
-use Rattle.fibs_session.proofs.History.Lists.{and_left, and_right, and_both, map_no_more}
+use Rattle.fibs_game.proofs.past.Lists.{and_left, and_right, and_both, map_no_more}
 
 -- the one phase before the roll is RollOrDouble
 roll_of : (p : Phase) → is_to_roll p ≡ true → p ≡ RollOrDouble

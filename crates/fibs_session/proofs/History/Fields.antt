@@ -8,6 +8,7 @@ use Rattle.fibs_commands.specs.Commands.{command_of}
 use Rattle.fibs_position.specs.GamePart.{same_game}
 use Rattle.fibs_commands.specs.PlainCommands.{automove_off, greedy_off, plain_of}
 use Rattle.fibs_game.specs.declared.refusal.Refusal.{Refusal}
+use Rattle.fibs_session.specs.Fibs.{fibs}
 use Rattle.fibs_session.specs.History.Log.{Entry, Flags, Opened, Welcomed, Informed, Shown, Clicked, Sent, Lost, Ordered, Withdrawn}
 use Rattle.fibs_session.specs.History.Words.{Ask, is_empty, last, open_now, opened_by, connections, shown, sent, welcomed, informed, welcomed_by, informed_by, shown_by, sent_by, is_spent, unconfirmed, IsLikeness, open_from, orders, orders_by, is_given}
 use Rattle.fibs_session.specs.History.Hearing.{confirmed_by_board}
@@ -15,10 +16,10 @@ use Rattle.fibs_session.specs.History.Machine.{Talk, start, noted, opened, was_s
 use Rattle.fibs_session.specs.History.Numbering.{Quiet}
 use Rattle.fibs_session.specs.Calls.SessionValue.{SessionValue, IsNoToggle, At}
 use Rattle.fibs_session.specs.Calls.FieldSteps.{fresh, lost, with_board, still_waiting, confirmed_of, answer_of}
-use Rattle.fibs_session.proofs.History.Lists.{other_number, last_snoc, before_last, map_more, map_no_more, snoc_not_empty}
-use Rattle.fibs_session.proofs.History.Past.{open_append, shown_more, sent_more, spent_first, spent_same, spent_other, spent_sent}
+use Rattle.fibs_game.proofs.past.Lists.{other_number, last_snoc, before_last, map_more, map_no_more, snoc_not_empty}
+use Rattle.fibs_game.proofs.past.Past.{open_append, shown_more, sent_more, spent_first, spent_same, spent_other, spent_sent}
 use Rattle.fibs_session.proofs.History.Texts.{NoToggles, no_texts, one_text, not_gone, decision_no_toggle}
-use Rattle.fibs_session.proofs.History.Words.{own, quiet_welcomed, quiet_informed, quiet_shown, quiet_sent, numbered_silent, numbered_own, numbered_opened, unconfirmed_quiet, unconfirmed_none, some_last, some_spent, none_last, quiet_ordered, quiet_withdrawn}
+use Rattle.fibs_game.proofs.past.Words.{own, quiet_welcomed, quiet_informed, quiet_shown, quiet_sent, numbered_silent, numbered_own, numbered_opened, unconfirmed_quiet, unconfirmed_none, some_last, some_spent, none_last, quiet_ordered, quiet_withdrawn}
 
 -- the empty history says nothing of any connection
 pub silent : (c : ℕ) → Quiet c []
@@ -76,27 +77,27 @@ pub record ChangesOrder (c : ℕ) (given : Bool) (es : List Entry) : Type 0 wher
 -- the entry of a standing order changes the order alone
 pub gives_order : (c : ℕ) → ChangesOrder c true (Ordered c ∷ [])
 gives_order c = record {
-  order = own c true;
+  order = (own fibs) c true;
   no_welcome = refl;
   no_flags = refl;
   no_board = refl;
   no_sent = refl;
   no_opening = refl;
   still = refl;
-  others = λ d. quiet_ordered c d;
+  others = λ d. (quiet_ordered fibs) c d;
 }
 
 -- the entry of its end changes the order alone
 pub withdraws_order : (c : ℕ) → ChangesOrder c false (Withdrawn c ∷ [])
 withdraws_order c = record {
-  order = own c false;
+  order = (own fibs) c false;
   no_welcome = refl;
   no_flags = refl;
   no_board = refl;
   no_sent = refl;
   no_opening = refl;
   still = refl;
-  others = λ d. quiet_withdrawn c d;
+  others = λ d. (quiet_withdrawn fibs) c d;
 }
 
 module _ (v : SessionValue) (t : Talk) (at : At v t) where
@@ -116,7 +117,7 @@ module _ (v : SessionValue) (t : Talk) (at : At v t) where
       let q = at.numbered.fresh n (omega arith) in
       record {
         conn = n;
-        is_open = open_append 0 t.log es;
+        is_open = (open_append fibs) 0 t.log es;
         logs_in = at.logs_in;
         no_toggle = at.no_toggle;
         has_connection = ap not (sym (suc_not_zero (connections t.log)));
@@ -127,9 +128,10 @@ module _ (v : SessionValue) (t : Talk) (at : At v t) where
         greedy_gone = sym (ap (λ x. was_sent (plain_of greedy_off) (x ∷ [])) (sym at.logs_in)
             ∙ (one_text v.login at.no_toggle).no_greedy);
         on_board = ap last (sym (map_no_more (shown_by n) t.log es refl ∙ q.no_board));
-        not_confirmed = sym (unconfirmed_none n (t.log ++ es) (map_no_more (shown_by n) t.log es refl ∙ q.no_board));
+        not_confirmed =
+            sym ((unconfirmed_none fibs) n (t.log ++ es) (map_no_more (shown_by n) t.log es refl ∙ q.no_board));
         has_order = ap (λ l. is_given (last l)) (sym (map_no_more (orders_by n) t.log es refl ∙ q.no_order));
-        numbered = numbered_opened t.log at.numbered;
+        numbered = (numbered_opened fibs) t.log at.numbered;
       }
 
   -- it is lost
@@ -138,7 +140,7 @@ module _ (v : SessionValue) (t : Talk) (at : At v t) where
       let es : List Entry = Lost (open_now t.log) u ∷ [] in
       let none : (d : ℕ) → Quiet d es =
       λ d. record { no_welcome = refl; no_flags = refl; no_board = refl; no_sent = refl; no_order = refl } in
-      let here : open_now (t.log ++ es) ≡ 0 = open_append 0 t.log es in
+      let here : open_now (t.log ++ es) ≡ 0 = (open_append fibs) 0 t.log es in
       let q = at.numbered.none in
       record {
         conn = 0;
@@ -151,9 +153,10 @@ module _ (v : SessionValue) (t : Talk) (at : At v t) where
         automove_gone = at.automove_gone ∙ ap (was_sent (plain_of automove_off)) (sym (append-nil t.commands));
         greedy_gone = at.greedy_gone ∙ ap (was_sent (plain_of greedy_off)) (sym (append-nil t.commands));
         on_board = ap last (sym (map_no_more (shown_by 0) t.log es refl ∙ q.no_board));
-        not_confirmed = sym (unconfirmed_none 0 (t.log ++ es) (map_no_more (shown_by 0) t.log es refl ∙ q.no_board));
+        not_confirmed =
+            sym ((unconfirmed_none fibs) 0 (t.log ++ es) (map_no_more (shown_by 0) t.log es refl ∙ q.no_board));
         has_order = ap (λ l. is_given (last l)) (sym (map_no_more (orders_by 0) t.log es refl ∙ q.no_order));
-        numbered = numbered_silent t.log
+        numbered = (numbered_silent fibs) t.log
             es at.numbered refl (subst (λ k. k ≤ connections t.log) (sym here) (omega arith)) none;
       }
 
@@ -175,11 +178,12 @@ module _ (v : SessionValue) (t : Talk) (at : At v t) where
     automove_gone = ha;
     greedy_gone = hg;
     on_board = at.on_board ∙ ap last (sym (map_no_more (shown_by c) t.log es (quiet c).no_board));
-    not_confirmed = at.not_confirmed ∙ sym (unconfirmed_quiet c t.log es (quiet c).no_board (quiet c).no_sent);
+    not_confirmed = at.not_confirmed ∙ sym ((unconfirmed_quiet fibs) c t.log es (quiet c).no_board (quiet c).no_sent);
     has_order =
         at.has_order ∙ ap (λ l. is_given (last l)) (sym (map_no_more (orders_by c) t.log es (quiet c).no_order));
     numbered =
-        numbered_silent t.log es at.numbered h (subst (λ k. k ≤ connections t.log) (sym same) at.numbered.below) quiet;
+        (numbered_silent fibs) t.log es at.numbered h
+        (subst (λ k. k ≤ connections t.log) (sym same) at.numbered.below) quiet;
   }
 
   -- entries that say nothing of any connection, with commands that turn nothing off, leave the fields as they are
@@ -197,7 +201,7 @@ module _ (v : SessionValue) (t : Talk) (at : At v t) where
   -- a click that is refused
   pub at_refused : (d : Decision) (a : Option Refusal) → At v (noted t (Clicked (open_now t.log) d a ∷ []) [])
   at_refused d a = at_silent (Clicked (open_now t.log) d a ∷ []) []
-      no_texts refl (open_append 0 t.log (Clicked (open_now t.log) d a ∷ []))
+      no_texts refl ((open_append fibs) 0 t.log (Clicked (open_now t.log) d a ∷ []))
       (λ d. record { no_welcome = refl; no_flags = refl; no_board = refl; no_sent = refl; no_order = refl })
 
   -- the answer to a click
@@ -209,10 +213,10 @@ module _ (v : SessionValue) (t : Talk) (at : At v t) where
       not_not _ _ at.has_welcome ∙ ap (λ n. is_empty (welcomed n t.log)) e in
       let f : v.flags ≡ last (informed (open_now t.log) t.log) = at.has_flags ∙ ap (λ n. last (informed n t.log)) e in
       let i : not (is_some v.flags) ≡ is_empty (informed (open_now t.log) t.log) =
-      not_not _ _ (ap is_some f ∙ some_last (informed (open_now t.log) t.log)) in
+      not_not _ _ (ap is_some f ∙ (some_last fibs) (informed (open_now t.log) t.log)) in
       let b : v.shown ≡ last (shown (open_now t.log) t.log) = at.on_board ∙ ap (λ n. last (shown n t.log)) e in
       let k : is_some v.waiting ≡ is_spent (open_now t.log) t.log =
-      ap is_some at.not_confirmed ∙ some_spent c t.log ∙ ap (λ n. is_spent n t.log) e in
+      ap is_some at.not_confirmed ∙ (some_spent fibs) c t.log ∙ ap (λ n. is_spent n t.log) e in
       cc
 
   -- a decision is sent, on the board that is shown
@@ -223,11 +227,11 @@ module _ (v : SessionValue) (t : Talk) (at : At v t) where
       let es : List Entry = Sent c b d ∷ [] in
       let texts : List (List ℕ) = command_of (direction_of b) d ∷ [] in
       let off : NoToggles texts = one_text _ (decision_no_toggle (direction_of b) d) in
-      let sp : is_spent c (t.log ++ es) ≡ true = spent_sent c t.log b d (before_last _ b lb) in
+      let sp : is_spent c (t.log ++ es) ≡ true = (spent_sent fibs) c t.log b d (before_last _ b lb) in
       let ls : last (sent c (t.log ++ es)) ≡ Some (b, d) =
-      ap last (sent_more c t.log b d) ∙ last_snoc (sent c t.log) (b, d) in
+      ap last ((sent_more fibs) c t.log b d) ∙ last_snoc (sent c t.log) (b, d) in
       let un : unconfirmed c (t.log ++ es) ≡ Some (b, d) = rw (sp, ls) refl in
-      let here : open_now (t.log ++ es) ≡ c = open_append 0 t.log es ∙ at.is_open in
+      let here : open_now (t.log ++ es) ≡ c = (open_append fibs) 0 t.log es ∙ at.is_open in
       record {
         conn = c;
         is_open = here;
@@ -241,8 +245,9 @@ module _ (v : SessionValue) (t : Talk) (at : At v t) where
         on_board = at.on_board ∙ ap last (sym (map_no_more (shown_by c) t.log es refl));
         not_confirmed = sym un;
         has_order = at.has_order ∙ ap (λ l. is_given (last l)) (sym (map_no_more (orders_by c) t.log es refl));
-        numbered = numbered_own t.log es
-            c at.numbered refl at.is_open (not_zero c (sym on ∙ at.has_connection)) here (λ n. quiet_sent c n b d);
+        numbered = (numbered_own fibs) t.log es
+            c at.numbered refl at.is_open (not_zero c (sym on ∙ at.has_connection)) here
+            (λ n. (quiet_sent fibs) c n b d);
       }
 
   -- the same, of the connection that is open now
@@ -264,7 +269,7 @@ module _ (v : SessionValue) (t : Talk) (at : At v t) where
         → NoToggles texts → At (record v { welcomed = true }) (noted t (Welcomed c ∷ []) texts)
     at_welcomed texts off =
         let es : List Entry = Welcomed c ∷ [] in
-        let here : open_now (t.log ++ es) ≡ c = open_append 0 t.log es ∙ at.is_open in
+        let here : open_now (t.log ++ es) ≡ c = (open_append fibs) 0 t.log es ∙ at.is_open in
         record {
           conn = c;
           is_open = here;
@@ -272,14 +277,15 @@ module _ (v : SessionValue) (t : Talk) (at : At v t) where
           no_toggle = at.no_toggle;
           has_connection = at.has_connection;
           has_welcome = snoc_some (welcomed c t.log) c
-              ∙ ap (λ l. not (is_empty l)) (sym (map_more (welcomed_by c) t.log es (c ∷ []) (own c c)));
+              ∙ ap (λ l. not (is_empty l)) (sym (map_more (welcomed_by c) t.log es (c ∷ []) ((own fibs) c c)));
           has_flags = at.has_flags ∙ ap last (sym (map_no_more (informed_by c) t.log es refl));
           automove_gone = at.automove_gone ∙ sym (not_gone _ t.commands texts off.no_automove);
           greedy_gone = at.greedy_gone ∙ sym (not_gone _ t.commands texts off.no_greedy);
           on_board = at.on_board ∙ ap last (sym (map_no_more (shown_by c) t.log es refl));
-          not_confirmed = at.not_confirmed ∙ sym (unconfirmed_quiet c t.log es refl refl);
+          not_confirmed = at.not_confirmed ∙ sym ((unconfirmed_quiet fibs) c t.log es refl refl);
           has_order = at.has_order ∙ ap (λ l. is_given (last l)) (sym (map_no_more (orders_by c) t.log es refl));
-          numbered = numbered_own t.log es c at.numbered refl at.is_open some here (λ d. quiet_welcomed c d);
+          numbered =
+              (numbered_own fibs) t.log es c at.numbered refl at.is_open some here (λ d. (quiet_welcomed fibs) c d);
         }
 
     -- message 2
@@ -287,7 +293,7 @@ module _ (v : SessionValue) (t : Talk) (at : At v t) where
         → NoToggles texts → At (record v { flags = Some f }) (noted t (Informed c f ∷ []) texts)
     at_informed f texts off =
         let es : List Entry = Informed c f ∷ [] in
-        let here : open_now (t.log ++ es) ≡ c = open_append 0 t.log es ∙ at.is_open in
+        let here : open_now (t.log ++ es) ≡ c = (open_append fibs) 0 t.log es ∙ at.is_open in
         record {
           conn = c;
           is_open = here;
@@ -296,13 +302,15 @@ module _ (v : SessionValue) (t : Talk) (at : At v t) where
           has_connection = at.has_connection;
           has_welcome = at.has_welcome ∙ ap (λ l. not (is_empty l)) (sym (map_no_more (welcomed_by c) t.log es refl));
           has_flags =
-              sym (ap last (map_more (informed_by c) t.log es (f ∷ []) (own c f)) ∙ last_snoc (informed c t.log) f);
+              sym (ap last (map_more (informed_by c) t.log es (f ∷ []) ((own fibs) c f))
+              ∙ last_snoc (informed c t.log) f);
           automove_gone = at.automove_gone ∙ sym (not_gone _ t.commands texts off.no_automove);
           greedy_gone = at.greedy_gone ∙ sym (not_gone _ t.commands texts off.no_greedy);
           on_board = at.on_board ∙ ap last (sym (map_no_more (shown_by c) t.log es refl));
-          not_confirmed = at.not_confirmed ∙ sym (unconfirmed_quiet c t.log es refl refl);
+          not_confirmed = at.not_confirmed ∙ sym ((unconfirmed_quiet fibs) c t.log es refl refl);
           has_order = at.has_order ∙ ap (λ l. is_given (last l)) (sym (map_no_more (orders_by c) t.log es refl));
-          numbered = numbered_own t.log es c at.numbered refl at.is_open some here (λ d. quiet_informed c d f);
+          numbered =
+              (numbered_own fibs) t.log es c at.numbered refl at.is_open some here (λ d. (quiet_informed fibs) c d f);
         }
 
     -- a standing order is given or withdrawn
@@ -310,7 +318,7 @@ module _ (v : SessionValue) (t : Talk) (at : At v t) where
         → At (record v { ordered = given }) (noted t es [])
     at_order given es k =
         let here : open_now (t.log ++ es) ≡ c =
-        open_append 0 t.log es ∙ ap (λ n. open_from n es) at.is_open ∙ k.still in
+        (open_append fibs) 0 t.log es ∙ ap (λ n. open_from n es) at.is_open ∙ k.still in
         record {
           conn = c;
           is_open = here;
@@ -323,10 +331,10 @@ module _ (v : SessionValue) (t : Talk) (at : At v t) where
           automove_gone = at.automove_gone ∙ sym (not_gone _ t.commands [] refl);
           greedy_gone = at.greedy_gone ∙ sym (not_gone _ t.commands [] refl);
           on_board = at.on_board ∙ ap last (sym (map_no_more (shown_by c) t.log es k.no_board));
-          not_confirmed = at.not_confirmed ∙ sym (unconfirmed_quiet c t.log es k.no_board k.no_sent);
+          not_confirmed = at.not_confirmed ∙ sym ((unconfirmed_quiet fibs) c t.log es k.no_board k.no_sent);
           has_order = sym (ap (λ l. is_given (last l)) (map_more (orders_by c) t.log es (given ∷ []) k.order)
               ∙ ap is_given (last_snoc (orders c t.log) given));
-          numbered = numbered_own t.log es c at.numbered k.no_opening at.is_open some here k.others;
+          numbered = (numbered_own fibs) t.log es c at.numbered k.no_opening at.is_open some here k.others;
         }
 
     module _ (likeness : IsLikeness same_game) where
@@ -344,21 +352,21 @@ module _ (v : SessionValue) (t : Talk) (at : At v t) where
           go : (o : Option Board) → o ≡ last (shown c t.log)
               → still_waiting o b v.waiting ≡ unconfirmed c (t.log ++ Shown c b ∷ [])
           go None h =
-              let n : shown c t.log ≡ [] = none_last _ (sym h) in
-              at.not_confirmed ∙ unconfirmed_none c t.log n ∙ over (spent_first likeness c t.log b n)
+              let n : shown c t.log ≡ [] = (none_last fibs) _ (sym h) in
+              at.not_confirmed ∙ (unconfirmed_none fibs) c t.log n ∙ over ((spent_first fibs) likeness c t.log b n)
           go (Some a) h = elim (cases_Bool (same_game a b)) [
             | inl s ↦ rw s (at.not_confirmed
                 ∙ ap (λ z. if z then last (sent c t.log) else None)
-                (sym (spent_same likeness c t.log a b (sym h) s))
+                (sym ((spent_same fibs) likeness c t.log a b (sym h) s))
                 ∙ ap (λ l. if is_spent c (t.log ++ Shown c b ∷ []) then last l else None) (sym es))
-            | inr f ↦ rw f (over (spent_other likeness c t.log a b (sym h) f))
+            | inr f ↦ rw f (over ((spent_other fibs) likeness c t.log a b (sym h) f))
           ]
 
       -- a good board
       pub at_shown : (b : Board) → At (with_board v b) (noted t (Shown c b ∷ []) [])
       at_shown b =
           let es : List Entry = Shown c b ∷ [] in
-          let here : open_now (t.log ++ es) ≡ c = open_append 0 t.log es ∙ at.is_open in
+          let here : open_now (t.log ++ es) ≡ c = (open_append fibs) 0 t.log es ∙ at.is_open in
           record {
             conn = c;
             is_open = here;
@@ -369,17 +377,18 @@ module _ (v : SessionValue) (t : Talk) (at : At v t) where
             has_flags = at.has_flags ∙ ap last (sym (map_no_more (informed_by c) t.log es refl));
             automove_gone = at.automove_gone ∙ sym (not_gone _ t.commands [] refl);
             greedy_gone = at.greedy_gone ∙ sym (not_gone _ t.commands [] refl);
-            on_board = sym (ap last (shown_more likeness c t.log b) ∙ last_snoc (shown c t.log) b);
+            on_board = sym (ap last ((shown_more fibs) likeness c t.log b) ∙ last_snoc (shown c t.log) b);
             not_confirmed = waits b;
             has_order = at.has_order ∙ ap (λ l. is_given (last l)) (sym (map_no_more (orders_by c) t.log es refl));
-            numbered = numbered_own t.log es c at.numbered refl at.is_open some here (λ d. quiet_shown c d b);
+            numbered =
+                (numbered_own fibs) t.log es c at.numbered refl at.is_open some here (λ d. (quiet_shown fibs) c d b);
           }
 
       -- a board confirms by the fields what it confirms by the history
       pub confirmed_law : (b : Board) → confirmed_of v b ≡ confirmed_by_board c t.log b
       confirmed_law b =
           let e : is_some (still_waiting v.shown b v.waiting) ≡ is_spent c (t.log ++ Shown c b ∷ []) =
-          ap is_some (waits b) ∙ some_spent c (t.log ++ Shown c b ∷ []) in
+          ap is_some (waits b) ∙ (some_spent fibs) c (t.log ++ Shown c b ∷ []) in
           let w : v.waiting ≡ unconfirmed c t.log = at.not_confirmed in
           cc
 
@@ -401,7 +410,7 @@ at_sent v t at b d on lb =
     let es : List Entry = Clicked n d None ∷ [] in
     let texts : List (List ℕ) = command_of (direction_of b) d ∷ [] in
     let t1 : Talk = noted t es [] in
-    let same : open_now t1.log ≡ n = open_append 0 t.log es in
+    let same : open_now t1.log ≡ n = (open_append fibs) 0 t.log es in
     let lb1 : last (shown (open_now t1.log) t1.log) ≡ Some b =
     ap (λ m. last (shown m t1.log)) same ∙ ap last (map_no_more (shown_by n) t.log es refl) ∙ lb in
     subst (At (record v { waiting = Some (b, d) })) (noted_twice t es (Sent n b d ∷ []) [] texts)
@@ -419,7 +428,7 @@ at_rolled v t at on likeness b =
     let texts : List (List ℕ) = command_of (direction_of b) roll ∷ [] in
     let t1 : Talk = noted t es [] in
     let at1 : At w t1 = at_shown v t at on likeness b in
-    let same : open_now t1.log ≡ n = open_append 0 t.log es ∙ at.is_open in
+    let same : open_now t1.log ≡ n = (open_append fibs) 0 t.log es ∙ at.is_open in
     let lb : last (shown (open_now t1.log) t1.log) ≡ Some b =
     ap (λ m. last (shown m t1.log)) at1.is_open ∙ sym at1.on_board in
     subst (At (record w { waiting = Some (b, roll) })) (noted_twice t es (Sent n b roll ∷ []) [] texts)

@@ -8,13 +8,14 @@ use Rattle.fibs_fields.specs.Board.{BoardFields}
 use Rattle.fibs_position.specs.GoodBoard.{good}
 use Rattle.fibs_messages.specs.Message.{MessageValue}
 use Rattle.fibs_game.specs.Game.{Says, welcomes, informs, shows, says_nothing}
+use Rattle.fibs_session.specs.Fibs.{fibs}
 use Rattle.fibs_session.specs.History.Log.{Entry, Shown}
 use Rattle.fibs_session.specs.History.Words.{open_from, open_now, opened_by}
 use Rattle.fibs_session.specs.History.Orders.{is_due}
 use Rattle.fibs_session.specs.History.Hearing.{Heard, shows_board, line_reading, heard, heard_says, says}
 use Rattle.fibs_session.specs.History.Machine.{Talk, Outcome, InputValue, run, step, stays, is_online, reads, hears, hears_all, heard_by, then_also, with_bytes, gained}
 use Rattle.fibs_session.specs.History.MachineLaws.{PiecesJoin, EmptyPieceIsNothing, LinesOpenNoConnection}
-use Rattle.fibs_session.proofs.History.Past.{open_append}
+use Rattle.fibs_game.proofs.past.Past.{open_append}
 
 -- no line opens or ends a connection
 
@@ -62,7 +63,7 @@ lines_open_none c log r = says_open_none c log (says r)
 -- the open connection is the same after one line
 pub hears_open : (t : Talk) (r : ReadingValue) → open_now (t.log ++ (heard_by t r).entries) ≡ open_now t.log
 hears_open t r =
-    open_append 0 t.log (heard_by t r).entries ∙ (lines_open_none (open_now t.log) t.log r).1 (open_now t.log)
+    (open_append fibs) 0 t.log (heard_by t r).entries ∙ (lines_open_none (open_now t.log) t.log r).1 (open_now t.log)
 
 -- the open connection is the same after many lines
 pub all_open : (t : Talk) (ls : List ReadLine) → open_now (hears_all t ls).talk.log ≡ open_now t.log

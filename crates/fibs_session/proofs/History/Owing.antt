@@ -13,6 +13,7 @@ use Rattle.fibs_position.specs.DirectionOf.{direction_of}
 use Rattle.fibs_position.specs.declared.direction.Direction.{Direction}
 use Rattle.fibs_commands.specs.FirstCommands.{style_text, autoboard_text, moreboards_text, board_text}
 use Rattle.fibs_commands.specs.Commands.{command_of}
+use Rattle.fibs_session.specs.Fibs.{fibs}
 use Rattle.fibs_session.specs.History.Hearing.{Heard, heard, flags_of, initial_commands, line_reading, nothing_heard, shows_board, heard_says, says}
 use Rattle.fibs_game.specs.Game.{Says, welcomes, informs, shows, says_nothing}
 use Rattle.fibs_session.specs.History.Log.{Entry, Welcomed, Informed, Shown, Sent}
@@ -21,8 +22,8 @@ use Rattle.fibs_session.specs.History.Owing.{owed_on, owed, PiecesTakeFromWhatIs
 use Rattle.fibs_session.specs.History.Orders.{is_due}
 use Rattle.fibs_session.specs.History.Words.{is_empty, open_now, welcomed, informed, welcomed_by, informed_by, last, is_ordered, orders, is_given, orders_by}
 use Rattle.fibs_session.proofs.History.Joins.{hears_open}
-use Rattle.fibs_session.proofs.History.Lists.{map_more, map_no_more, snoc_not_empty}
-use Rattle.fibs_session.proofs.History.Words.{own}
+use Rattle.fibs_game.proofs.past.Lists.{map_more, map_no_more, snoc_not_empty}
+use Rattle.fibs_game.proofs.past.Words.{own}
 use Rattle.fibs_session.proofs.History.Due.{due_stands}
 
 -- bytes of commands
@@ -115,7 +116,7 @@ welcome_takes : (c : ℕ) (log : List Entry) → Takes c log (record {
 welcome_takes c log =
     let es : List Entry = Welcomed c ∷ [] in
     let w : is_empty (welcomed c (log ++ es)) ≡ false =
-    ap is_empty (map_more (welcomed_by c) log es (c ∷ []) (own c c)) ∙ snoc_not_empty (welcomed c log) c in
+    ap is_empty (map_more (welcomed_by c) log es (c ∷ []) ((own fibs) c c)) ∙ snoc_not_empty (welcomed c log) c in
     let i : informed c (log ++ es) ≡ informed c log = map_no_more (informed_by c) log es refl in
     let now : owed_on c (log ++ es) ≡ 0 + (if is_empty (informed c log) then 44 else 0) =
     ap (λ b. (if b then 18 else 0) + (if is_empty (informed c (log ++ es)) then 44 else 0)) w
@@ -140,7 +141,7 @@ info_takes c log m =
     let es : List Entry = Informed c (flags_of m) ∷ [] in
     let w : welcomed c (log ++ es) ≡ welcomed c log = map_no_more (welcomed_by c) log es refl in
     let i : is_empty (informed c (log ++ es)) ≡ false =
-    ap is_empty (map_more (informed_by c) log es (flags_of m ∷ []) (own c (flags_of m)))
+    ap is_empty (map_more (informed_by c) log es (flags_of m ∷ []) ((own fibs) c (flags_of m)))
     ∙ snoc_not_empty (informed c log) (flags_of m) in
     let now : owed_on c (log ++ es) ≡ (if is_empty (welcomed c log) then 18 else 0) + 0 =
     ap (λ b. (if is_empty (welcomed c (log ++ es)) then 18 else 0) + (if b then 44 else 0)) i

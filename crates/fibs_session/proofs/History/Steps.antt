@@ -15,6 +15,7 @@ use Rattle.fibs_commands.specs.PlainCommands.{PlainValue, automove_off, greedy_o
 use Rattle.fibs_commands.specs.FirstCommands.{style_text}
 use Rattle.fibs_game.specs.declared.refusal.Refusal.{Refusal}
 use Rattle.fibs_game.specs.declared.refusal.Refusal.TheVariants.{Offline, AlreadyOrdered, NotOrdered}
+use Rattle.fibs_session.specs.Fibs.{fibs}
 use Rattle.fibs_session.specs.History.Log.{Entry, Shown, Ordered, Withdrawn}
 use Rattle.fibs_session.specs.History.Words.{is_empty, last, open_now, shown, welcomed, informed, IsLikeness, answer, is_ordered, orders_by, is_given}
 use Rattle.fibs_session.specs.History.Hearing.{Heard, heard, flags_of, initial_commands, shows_board}
@@ -24,9 +25,9 @@ use Rattle.fibs_session.specs.History.Orders.{is_due, is_to_roll}
 use Rattle.fibs_session.specs.Calls.SessionValue.{SessionValue, At}
 use Rattle.fibs_session.specs.Calls.FieldSteps.{HeardFields, heard_fields, may_send_of, plain_refusal_of, with_plain, with_board, confirmed_of, answer_of, with_ask, due_of, board_shown, order_refusal_of, withdraw_refusal_of, with_order}
 use Rattle.fibs_session.proofs.History.Joins.{message_heard}
-use Rattle.fibs_session.proofs.History.Lists.{other_number, map_no_more}
+use Rattle.fibs_game.proofs.past.Lists.{other_number, map_no_more}
 use Rattle.fibs_session.proofs.History.Texts.{NoToggles, no_texts, if_texts, not_gone, gone_now, style_texts, initial_texts}
-use Rattle.fibs_session.proofs.History.Words.{yes, some_last}
+use Rattle.fibs_game.proofs.past.Words.{yes, some_last}
 use Rattle.fibs_session.proofs.History.Fields.{online_law, at_silent, at_quiet, unheard_law, at_refused, answer_law, at_welcomed, at_informed, at_shown, confirmed_law, at_order, gives_order, withdraws_order, at_sent, at_rolled, silent, not_not}
 
 -- a choice by a test is the opposite choice by the opposite test
@@ -70,7 +71,7 @@ module _ (v : SessionValue) (t : Talk) (at : At v t) (on : v.online ≡ true) (l
       let i : (if is_some v.flags then [] else initial_commands m)
       ≡ (if is_empty (informed c t.log) then initial_commands m else []) =
       flipped (is_some v.flags) (is_empty (informed c t.log))
-      [] (initial_commands m) (ap is_some at.has_flags ∙ some_last (informed c t.log)) in
+      [] (initial_commands m) (ap is_some at.has_flags ∙ (some_last fibs) (informed c t.log)) in
       subst (HeardIs t (heard_fields v (numbered_line m))) (sym (message_heard c t.log m))
       (choose t (nat_eq m.number 1) _ _ _ _
       (λ _. record {
@@ -155,7 +156,7 @@ module _ (v : SessionValue) (t : Talk) (at : At v t) where
       → (b : Board) × (v.shown ≡ Some b)
       × At (with_ask v d v.shown) (clicks t d).talk × ((clicks t d).send ≡ command_of (direction_of b) d ∷ [])
   sent_law d h =
-      let y = yes t.log d (sym (answer_law v t at d) ∙ h) in
+      let y = (yes fibs) t.log d (sym (answer_law v t at d) ∙ h) in
       let ob : v.shown ≡ Some y.on = at.on_board ∙ ap (λ n. last (shown n t.log)) (sym at.is_open) ∙ y.is_last in
       let on : v.online ≡ true = online_law v t at ∙ ap not (positive (open_now t.log) y.some) in
       let step : clicks t d ≡ decides_on t d (Some y.on) =
@@ -290,8 +291,8 @@ module _ (v : SessionValue) (t : Talk) (at : At v t) where
       subst (λ a. At (with_order v true (order_refusal_of v)) (notes_if t e a).talk × ((notes_if t e a).send ≡ []))
       order_refusal_law
       (noted_if_yes true e (order_refusal_of v)
-      (λ yes. subst (λ n. At (record v { ordered = true }) (noted t (Ordered n ∷ []) [])) (sym at.is_open)
-      (at_order v t at (on_of_yes v.online _ yes) true (Ordered at.conn ∷ []) (gives_order at.conn))))
+      (λ ok. subst (λ n. At (record v { ordered = true }) (noted t (Ordered n ∷ []) [])) (sym at.is_open)
+      (at_order v t at (on_of_yes v.online _ ok) true (Ordered at.conn ∷ []) (gives_order at.conn))))
 
   -- the end of an order does to the fields what it does to the machine
   pub withdraw_law : At (with_order v false (withdraw_refusal_of v)) (withdraws t).talk × ((withdraws t).send ≡ [])
@@ -300,5 +301,5 @@ module _ (v : SessionValue) (t : Talk) (at : At v t) where
       subst (λ a. At (with_order v false (withdraw_refusal_of v)) (notes_if t e a).talk × ((notes_if t e a).send ≡ []))
       withdraw_refusal_law
       (noted_if_yes false e (withdraw_refusal_of v)
-      (λ yes. subst (λ n. At (record v { ordered = false }) (noted t (Withdrawn n ∷ []) [])) (sym at.is_open)
-      (at_order v t at (on_of_yes v.online _ yes) false (Withdrawn at.conn ∷ []) (withdraws_order at.conn))))
+      (λ ok. subst (λ n. At (record v { ordered = false }) (noted t (Withdrawn n ∷ []) [])) (sym at.is_open)
+      (at_order v t at (on_of_yes v.online _ ok) false (Withdrawn at.conn ∷ []) (withdraws_order at.conn))))

@@ -1,11 +1,12 @@
 -- What a history of entries says of a connection, of backgammon (the project's own).
-use Rattle.std.specs.Prelude.{◌≡◌, ℕ, Bool, true, List, Option}
+use Rattle.std.specs.Prelude.{ℕ, Bool, List, Option}
 use Rattle.fibs_fields.specs.Board.{BoardFields as Board}
 use Rattle.fibs_position.specs.DecisionValue.{DecisionValue as Decision}
 use Rattle.fibs_game.specs.declared.refusal.Refusal.{Refusal}
 use Rattle.fibs_session.specs.Fibs.{fibs}
 use Rattle.fibs_session.specs.History.Log.{Entry, Flags}
 use Rattle.fibs_game.specs.Words as A
+pub use Rattle.fibs_game.specs.Lawful.{IsLikeness}
 pub use Rattle.fibs_game.specs.Words.{one_if, is_empty, last, each, is_given, plays_itself}
 
 -- a decision with the board that it is about
@@ -95,9 +96,3 @@ unconfirmed = A.unconfirmed
 -- the answer to a decision, by the history: the first refusal that fits; None means yes
 abbrev pub answer : List Entry → Decision → Option Refusal
 answer = A.answer
-
--- boards that are alike: one is like itself, and so on
-pub record IsLikeness (like : Board → Board → Bool) : Type 0 where
-  pub like_itself : (a : Board) → like a a ≡ true
-  pub like_back : (a b : Board) → like a b ≡ true → like b a ≡ true
-  pub like_on : (a b c : Board) → like a b ≡ true → like b c ≡ true → like a c ≡ true

@@ -1,5 +1,5 @@
-use Rattle.fibs_model.proofs.OnceLemmas.{once}
+use Rattle.fibs_game.proofs.Once.{once}
 use Rattle.fibs_model.proofs.machine.laws.once.Goals as goal
 
 pub returns : goal.returns
-returns c = once c.effect_is_exact.ensures c.effect_is_good.ensures c.no_three_in_a_row.ensures
+returns c = once c.fibs_is_a_game.ensures

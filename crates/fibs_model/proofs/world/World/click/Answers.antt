@@ -13,7 +13,7 @@ invariant_of-self-2 c =
     let all = c.hand_out.new.links.ok.0 in
     let d = decision_of c.args.decision.now in
     kept_on c.self.inside _ (Click d) c.self.invariant
-    (clicked_stands c.servers_entries_are_silent.ensures (world_of c.self.inside) _ _ refl
+    (clicked_stands (world_of c.self.inside) _ _ refl
     (asked_after _ _ _ _ _ c.make_room.ensures.same c.hand_out.ensures.value) refl
     d _ _ (noted_after _ _ _ _ c.reserve.ensures.items c.note_click.ensures)
     c.decide-answer.ensures.refusal (λ t h. ap (option_map fields_of) c.copied-shown.ensures ∙ c.shown.ensures t h)
@@ -24,7 +24,7 @@ pub returns-clause-ok : goal.returns-clause-ok
 returns-clause-ok c =
     let d = decision_of c.args.decision.now in
     goes_seen _ _ _ (Click d) c.self.view_is
-    (clicked_stands c.servers_entries_are_silent.ensures (world_of c.self.inside) _ _ refl
+    (clicked_stands (world_of c.self.inside) _ _ refl
     (asked_after _ _ _ _ _ c.make_room.ensures.same c.hand_out.ensures.value) refl
     d _ _ (noted_after _ _ _ _ c.reserve.ensures.items c.note_click.ensures)
     c.decide-answer.ensures.refusal (λ t h. ap (option_map fields_of) c.copied-shown.ensures ∙ c.shown.ensures t h)

@@ -11,7 +11,7 @@ invariant_of-self-2 g c =
     let all = c.hear_next.new.links.ok.0 in
     let e = Deliver c.args.n in
     kept_on c.self.inside _ e c.self.invariant
-    (heard_stands c.servers_entries_are_silent.ensures (world_of c.self.inside) _ c.args.n refl
+    (heard_stands (world_of c.self.inside) _ c.args.n refl
     (heard_after _ _ _ _ _ _ _ _ _ _ c.make_room.ensures.same (ap (map entry_of) c.reserve.ensures.items)
     c.hear_next.ensures.hears) refl
     (may_seen _ _ e c.self.view_is c.requires.may))
@@ -21,7 +21,7 @@ pub returns-clause-ok : goal.returns-clause-ok
 returns-clause-ok g c =
     let e = Deliver c.args.n in
     goes_seen _ _ _ e c.self.view_is
-    (heard_stands c.servers_entries_are_silent.ensures (world_of c.self.inside) _ c.args.n refl
+    (heard_stands (world_of c.self.inside) _ c.args.n refl
     (heard_after _ _ _ _ _ _ _ _ _ _ c.make_room.ensures.same (ap (map entry_of) c.reserve.ensures.items)
     c.hear_next.ensures.hears) refl
     (may_seen _ _ e c.self.view_is c.requires.may))

@@ -28,7 +28,7 @@ invariant_of-self-2 g c =
           c.self.inside.links.items link_of,
     ) in
     kept_on c.self.inside _ Open c.self.invariant
-    (opened_stands c.servers_entries_are_silent.ensures (world_of c.self.inside) _ c.unwrap-login.result.bytes refl
+    (opened_stands (world_of c.self.inside) _ c.unwrap-login.result.bytes refl
     (opened_wires _ _ _ _ _ c.reserve-2.ensures.items c.push_reserved.ensures.items c.new.ensures.items
     (c.put.ensures.items ∙ ap (λ xs. xs ++ on_wire c.as_bytes.result.now) c.in_ok-to_server.ensures.items
     ∙ ap on_wire (c.as_bytes.ensures.value ∙ c.deref.ensures.0)) refl)
@@ -54,7 +54,7 @@ returns-clause-ok g c =
           c.self.inside.links.items link_of,
     ) in
     goes_seen _ _ _ Open c.self.view_is
-    (opened_stands c.servers_entries_are_silent.ensures (world_of c.self.inside) _ c.unwrap-login.result.bytes refl
+    (opened_stands (world_of c.self.inside) _ c.unwrap-login.result.bytes refl
     (opened_wires _ _ _ _ _ c.reserve-2.ensures.items c.push_reserved.ensures.items c.new.ensures.items
     (c.put.ensures.items ∙ ap (λ xs. xs ++ on_wire c.as_bytes.result.now) c.in_ok-to_server.ensures.items
     ∙ ap on_wire (c.as_bytes.ensures.value ∙ c.deref.ensures.0)) refl)

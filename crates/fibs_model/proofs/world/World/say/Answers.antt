@@ -11,7 +11,7 @@ invariant_of-self-2 c =
     let all = c.hand_out.new.links.ok.0 in
     let p = plain_value c.args.plain.now in
     kept_on c.self.inside _ (Plain p) c.self.invariant
-    (said_stands c.servers_entries_are_silent.ensures (world_of c.self.inside) _ _ refl
+    (said_stands (world_of c.self.inside) _ _ refl
     (asked_after _ _ _ _ _ c.make_room.ensures.same c.hand_out.ensures.value) refl
     p refl c.plain-answer.ensures.does)
     (omega (arith, all, c.hand_out.ensures.len, c.make_room.ensures.len, c.self.invariant.known))
@@ -20,6 +20,6 @@ pub returns-clause-ok : goal.returns-clause-ok
 returns-clause-ok c =
     let p = plain_value c.args.plain.now in
     goes_seen _ _ _ (Plain p) c.self.view_is
-    (said_stands c.servers_entries_are_silent.ensures (world_of c.self.inside) _ _ refl
+    (said_stands (world_of c.self.inside) _ _ refl
     (asked_after _ _ _ _ _ c.make_room.ensures.same c.hand_out.ensures.value) refl
     p refl c.plain-answer.ensures.does)

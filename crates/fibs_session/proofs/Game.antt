@@ -1,0 +1,2 @@
+pub mod BeforeRolls
+pub mod Lawful
