@@ -278,7 +278,7 @@ def the_order_of_the_settings_is_given_on_each_connection():
             ann.type('open')
         ann.close()
         server.close()
-        pathlib.Path(path).write_text('# no order\n')
+        pathlib.Path(path).write_text('# order roll\n')
         server = Listener()
         ann = Person(server.port, FIBS_CONFIG=path)
         server.accept()

@@ -1,7 +1,7 @@
 //! `fibs`: a client for the First Internet Backgammon Server. The command line, the devices and the exit status.
 #![tactic(auto)]
 
-mod player;
+pub(crate) mod player;
 
 use fibs_cli::arguments::{Answer, Asked};
 use fibs_cli::program;

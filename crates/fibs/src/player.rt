@@ -2,7 +2,7 @@
 //! the engines print, to the byte.
 
 mod devices;
-mod ordering;
+pub(crate) mod ordering;
 mod playing;
 pub mod showing;
 mod streams;

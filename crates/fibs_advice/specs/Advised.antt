@@ -1,5 +1,5 @@
 -- What is advised in a state, and how a terminal says it (the project's own).
-use Rattle.std.specs.Prelude.{◌≡◌, ◌≢◌, ◌++◌, ◌∷◌, ℕ, List, [], codes, Bool, true, false, Option, Some, None, IfSome, is_none, option_map}
+use Rattle.std.specs.Prelude.{◌≡◌, ◌≢◌, ◌++◌, ◌∷◌, ℕ, List, [], codes, take, length, nat_lt, if◌then◌else◌, Bool, true, false, Option, Some, None, IfSome, is_none, option_map}
 use Rattle.fibs_fields.specs.Board.{BoardFields}
 use Rattle.fibs_position.specs.Allowed.{allowed_of}
 use Rattle.fibs_position.specs.DecisionValue.{DecisionValue, accept, reject, decision_of}
@@ -11,12 +11,18 @@ use Rattle.fibs_position.specs.declared.direction.Direction.{Direction}
 use Rattle.fibs_session.specs.History.Machine.{Talk, shown_now, unconfirmed_now, plain_refusal}
 use Rattle.fibs_session.specs.History.Words.{Ask}
 use Rattle.fibs_advice.specs.Offers.{OffersNow, is_taken, may_decide, first_way, hint_text}
-use Rattle.fibs_advice.specs.Standings.{hides_offers, is_unsure, repeats, owes_answer}
+use Rattle.fibs_advice.specs.Standings.{comes_first, hides_offers, is_unsure, repeats, owes_answer}
 use Rattle.fibs_advice.specs.Rows.{answers, names_way_on, plain_in, rolls_alone, shows_offers, words_before, words_after}
 use Rattle.fibs_advice.specs.declared.row.Row.{Row}
 use Rattle.fibs_advice.specs.declared.row.Row.TheVariants as R
 use Rattle.fibs_advice.specs.declared.standing.Standing.{Standing}
 use Rattle.fibs_advice.specs.declared.advised.Advice.{Advice}
+
+-- an offer changes no board
+abbrev pub is_offer : Decision → Bool
+is_offer D.Double = true
+is_offer (D.Resign kind) = true
+is_offer d = false
 
 -- the rules allow a decision on the board that is shown
 abbrev pub rules_allow : Option BoardFields → DecisionValue → Bool
@@ -46,6 +52,10 @@ pub record Advises (t : Talk) (standing : Standing) (a : Advice) : Type 0 where
   pub offers : OffersNow t a.offers
   pub shown : hides_offers standing ≡ false → may_decide a.offers ≡ true → shows_offers a.row ≡ true
   pub named : is_unsure standing ≡ true → may_decide a.offers ≡ true → names_way_on a.row ≡ true
+  -- that the server plays by itself is said only if no row of the state comes before it
+  pub server : a.row ≡ R.ServerPlays → comes_first standing ≡ false
+  -- that it has refused a double, only if one may be made
+  pub undoubled : a.row ≡ R.Undoubled → a.offers.double ≡ true
   pub rolls : rolls_alone a.row ≡ true → a.offers.roll ≡ true
   pub plain : IfSome (plain_in a.row) (λ p. plain_refusal t p ≡ None)
   pub automove : a.automove ≡ is_none (plain_refusal t automove_off)
@@ -99,14 +109,27 @@ toggles_text true false = codes "toggle automove, then bye,\nthen open"
 toggles_text false true = codes "toggle greedy, then bye,\nthen open"
 toggles_text false false = codes "bye,\nthen open"
 
+-- a line with a name is to be typed as it stands, so the name is whole: if that is long the line has a row of its own
+abbrev pub gap : List ℕ → List ℕ
+gap name = if nat_lt 24 (length name) then codes "\n" else codes " "
+
 -- and of the match that is saved then, if there is an opponent
 abbrev pub invite_words : List ℕ → List ℕ
 invite_words [] = []
-invite_words (byte ∷ rest) = codes ", and invite "
+invite_words (byte ∷ rest) = codes ", and" ++ (gap (byte ∷ rest) ++ codes "invite ")
 
 -- the text of the row about a saved match: the words that resume it, and a full stop
 abbrev pub resumes_text : List ℕ → List ℕ
 resumes_text opponent = invite_words opponent ++ (opponent ++ codes ".\n")
+
+-- the words that resume a saved match: to invite, or to join who invites
+abbrev pub saved_text : List ℕ → List ℕ
+saved_text opponent = gap opponent ++ (codes "invite " ++ (opponent ++ (codes ",\nor join " ++ (opponent
+    ++ (codes "," ++ gap opponent)))))
+
+-- the words that accept an invitation
+abbrev pub invited_text : List ℕ → List ℕ
+invited_text inviter = gap inviter ++ (codes "join " ++ inviter)
 
 -- how a row begins: with who plays against the user, or with what was sent
 abbrev pub beginning : Row → List ℕ → List ℕ → List ℕ
@@ -136,11 +159,11 @@ named_in R.Back opponent inviter a = send_text a.offers.direction a.send a.other
 named_in R.Unsettled opponent inviter a = goes_on_text [] a.offers.direction (first_taken a)
 named_in R.Unanswered opponent inviter a = goes_on_text [] a.offers.direction (first_taken a)
 named_in R.Thinks opponent inviter a = goes_on_text (codes "send ") a.offers.direction a.send
-named_in R.Saved opponent inviter a = opponent ++ (codes ",\nor join " ++ opponent)
-named_in R.Invited opponent inviter a = inviter
+named_in R.Saved opponent inviter a = saved_text opponent
+named_in R.Invited opponent inviter a = invited_text inviter
 named_in row opponent inviter a = []
 
--- what is said
+-- what is said: of a name that is not to be typed the first 24 bytes
 abbrev pub advice_text : List ℕ → List ℕ → Advice → List ℕ
-advice_text opponent inviter a = beginning a.row (opponent_text opponent) (decision_word a.asked)
+advice_text opponent inviter a = beginning a.row (opponent_text (take 24 opponent)) (decision_word a.asked)
     ++ (words_before a.row ++ (named_in a.row opponent inviter a ++ words_after a.row))

@@ -1,6 +1,9 @@
 pub mod Advised
+pub mod BrokenRules
 pub mod Leads
+pub mod Listings
 pub mod Offers
 pub mod Rows
+pub mod Situations
 pub mod Standings
 pub mod Trials

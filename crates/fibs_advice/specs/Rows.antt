@@ -33,6 +33,19 @@ rolls_alone R.Undoubled = true
 rolls_alone R.Accepted = true
 rolls_alone row = false
 
+-- it tells how a game stands that is on the table, whoever plays
+abbrev pub is_of_game : Row → Bool
+is_of_game R.NotLoggedIn = false
+is_of_game R.Undoubled = false
+is_of_game R.Accepted = false
+is_of_game R.ServerPlays = false
+is_of_game R.Next = false
+is_of_game R.Joined = false
+is_of_game R.Saved = false
+is_of_game R.Absent = false
+is_of_game R.Invited = false
+is_of_game row = true
+
 -- it is said only if the user asks: there is nothing to do then, or it is not sure
 abbrev pub is_asked_for : Row → Bool
 is_asked_for R.Unsettled = true
@@ -76,9 +89,9 @@ words_before R.Thinks = codes " has not answered yet.\n"
 words_before R.Waits = codes " was sent: board asks what became of it.\n"
 words_before R.Next = codes "The game is over: join goes on, leave saves the match.\n"
 words_before R.Joined = codes " has not joined yet.\n"
-words_before R.Saved = codes "Your match may be saved: invite "
+words_before R.Saved = codes "Your match may be saved:"
 words_before R.Absent = codes " is not here now: your match may be saved.\n"
-words_before R.Invited = codes "You are invited: join "
+words_before R.Invited = codes "You are invited:"
 
 -- its words after what it names
 abbrev pub words_after : Row → List ℕ
@@ -86,5 +99,5 @@ words_after R.Declined = codes "\n"
 words_after R.Same = codes "\n"
 words_after R.Back = codes "\n"
 words_after R.Invited = codes "\n"
-words_after R.Saved = codes ", if you are invited.\n"
+words_after R.Saved = codes "if you are invited.\n"
 words_after row = []

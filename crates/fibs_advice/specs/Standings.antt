@@ -24,6 +24,47 @@ is_unsure S.Unsettled = true
 is_unsure S.Unanswered = true
 is_unsure standing = false
 
+-- a match is on the table
+abbrev pub is_in_match : Standing → Bool
+is_in_match S.Free = false
+is_in_match S.Invited = false
+is_in_match S.Gone = false
+is_in_match S.Reopened = false
+is_in_match standing = true
+
+-- an offer of the opponent is told by texts, or was just answered
+abbrev pub has_offer : Standing → Bool
+has_offer S.Answered = true
+has_offer S.Doubled = true
+has_offer standing = owes_answer standing
+
+-- the state after an invitation has come to nothing: a match that was saved before it still is
+abbrev pub after_not_invited : Standing → Standing
+after_not_invited S.Invited = S.Gone
+after_not_invited standing = standing
+
+-- a state's own row comes before the one that the server plays by itself
+abbrev pub comes_first : Standing → Bool
+comes_first S.Resigned = true
+comes_first S.Conceded = true
+comes_first S.Owed = true
+comes_first S.Gone = true
+comes_first S.Reopened = true
+comes_first S.Invited = true
+comes_first S.Ended = true
+comes_first S.Next = true
+comes_first S.Joined = true
+comes_first standing = false
+
+-- lines that go as they are lead on while a decision waits: its board came again; or it is an offer, and the opponent
+-- has declined it or has it before him
+abbrev pub sends : Standing → Bool → Bool
+sends S.Same is_offer = true
+sends S.Back is_offer = true
+sends S.Refused is_offer = is_offer
+sends S.Offered is_offer = is_offer
+sends standing is_offer = false
+
 -- what the client takes is not what the user waits for: there is no game, or its board is still to come, or an offer is
 -- before the opponent or was just answered, or may be open, or gives the turn away
 abbrev pub hides_offers : Standing → Bool

@@ -1,12 +1,12 @@
 //! What is advised in a state.
-ghost use Rattle.std.specs.Prelude.{◌≡◌, true, false, None, IfOk, IfSome, IsTrue, is_none};
+ghost use Rattle.std.specs.Prelude.{◌≡◌, ◌≢◌, true, false, None, IfOk, IfSome, IsTrue, is_none};
 ghost use Rattle.fibs_session.specs.History.Machine.{Talk, shown_now, unconfirmed_now, plain_refusal};
 ghost use Rattle.fibs_position.specs.DecisionValue.{decision_of};
 ghost use Rattle.fibs_commands.specs.PlainOf.{plain_value};
 ghost use Rattle.fibs_session.specs.Calls.Standing.{StandsAfter};
-ghost use Rattle.fibs_advice.specs.Advised.{Advises, IsAnother, MayAnswer, MaySend, rules_allow};
-ghost use Rattle.fibs_advice.specs.Rows.{answers, names_way_on, plain_in, rolls_alone, shows_offers};
-ghost use Rattle.fibs_advice.specs.Standings.{hides_offers, is_unsure};
+ghost use Rattle.fibs_advice.specs.Advised.{Advises, IsAnother, MayAnswer, MaySend, is_offer, rules_allow};
+ghost use Rattle.fibs_advice.specs.Rows.{answers, is_of_game, names_way_on, plain_in, rolls_alone, shows_offers};
+ghost use Rattle.fibs_advice.specs.Standings.{comes_first, hides_offers, is_unsure, sends};
 ghost use Rattle.fibs_advice.specs.Offers.{may_decide};
 
 use crate::offers::{Offers, is_taken, offered};
@@ -143,6 +143,7 @@ fn true_row(client: &Client, standing: Standing, offers: &Offers, row: Row) -> R
     ensures plain { (t : Talk) → StandsAfter client.now t →
         IfSome (plain_in result) (λ p. plain_refusal t p ≡ None) }
     ensures answer { answers result ≡ true → (t : Talk) → StandsAfter client.now t → MayAnswer t standing }
+    ensures row { result ≢ Row.Offers → result ≡ row }
 {
     if is_true(client, standing, offers, row) && says_offers(standing, offers, row) {
         row
@@ -176,7 +177,7 @@ fn ways_on(
     game: &GameBoard,
     situation: &Situation,
 ) -> Result<(Option<Decision>, Option<Decision>), AllocError> {
-    let doubles = !situation.refuses_double && situation.standing != Standing::Offered;
+    let doubles = !situation.refuses_double() && situation.standing != Standing::Offered;
     match game.phase() {
         Phase::RollOrDouble if doubles => Ok((Some(Decision::Roll), Some(Decision::Double))),
         Phase::RollOrDouble => Ok((Some(Decision::Roll), None)),
@@ -187,13 +188,17 @@ fn ways_on(
 }
 
 /// Whether a decision is an offer, which changes no board.
-fn is_offer(decision: &Decision) -> bool {
+fn is_offer(decision: &Decision) -> bool
+    ensures { result ≡ is_offer decision.now }
+{
     matches!(decision, Decision::Double | Decision::Resign(_))
 }
 
 /// Whether a state asks for lines that go as they are, while a decision waits. A decision that was refused, and is no
 /// offer, was made on a board that is no longer the game's: that board is asked for first.
-fn sends(standing: Standing, waiting: &Decision) -> bool {
+fn sends(standing: Standing, waiting: &Decision) -> bool
+    ensures { result ≡ sends standing (is_offer waiting.now) }
+{
     match standing {
         Standing::Same | Standing::Back => true,
         Standing::Refused | Standing::Offered => is_offer(waiting),
@@ -229,7 +234,9 @@ fn is_deciding(client: &Client) -> bool {
 }
 
 /// What is said if nothing waits: what the client takes; and if no board is shown, how one is.
-fn row_of_game(client: &Client) -> Row {
+fn row_of_game(client: &Client) -> Row
+    ensures { is_of_game result ≡ true }
+{
     if client.game().is_some() {
         Row::Offers
     } else {
@@ -238,7 +245,9 @@ fn row_of_game(client: &Client) -> Row {
 }
 
 /// What is said of a decision that was refused, or that waits though its board came again.
-fn row_of_refused(client: &Client, standing: Standing, has_way: bool) -> Row {
+fn row_of_refused(client: &Client, standing: Standing, has_way: bool) -> Row
+    ensures { is_of_game result ≡ true }
+{
     if client.waiting().is_none() {
         return row_of_game(client);
     }
@@ -251,7 +260,9 @@ fn row_of_refused(client: &Client, standing: Standing, has_way: bool) -> Row {
 }
 
 /// What is said if a decision waits of which nothing was heard, or if none waits: what the client takes.
-fn row_of_waiting(client: &Client) -> Row {
+fn row_of_waiting(client: &Client) -> Row
+    ensures { is_of_game result ≡ true }
+{
     if client.waiting().is_some() {
         Row::Waits
     } else {
@@ -260,7 +271,9 @@ fn row_of_waiting(client: &Client) -> Row {
 }
 
 /// What is said if the server has said that it is the user's turn: what the client takes, else that the board shows it.
-fn row_of_turn(offers: &Offers) -> Row {
+fn row_of_turn(offers: &Offers) -> Row
+    ensures { is_of_game result ≡ true }
+{
     if offers.may_decide() {
         Row::Offers
     } else {
@@ -270,7 +283,9 @@ fn row_of_turn(offers: &Offers) -> Row {
 
 /// What is said after the user has declined an offer to resign, or a game has begun: if it is his turn, its board is
 /// still to come.
-fn row_of_continued(client: &Client, is_due: bool) -> Row {
+fn row_of_continued(client: &Client, is_due: bool) -> Row
+    ensures { is_of_game result ≡ true }
+{
     if is_due {
         Row::Turn
     } else if client.waiting().is_some() {
@@ -281,7 +296,9 @@ fn row_of_continued(client: &Client, is_due: bool) -> Row {
 }
 
 /// What is said in a game.
-fn row_in_game(client: &Client, situation: &Situation, offers: &Offers, has_way: bool) -> Row {
+fn row_in_game(client: &Client, situation: &Situation, offers: &Offers, has_way: bool) -> Row
+    ensures { is_of_game result ≡ true }
+{
     let standing = situation.standing;
     match standing {
         Standing::Resigned => Row::Resigns,
@@ -297,25 +314,30 @@ fn row_in_game(client: &Client, situation: &Situation, offers: &Offers, has_way:
         Standing::Asked | Standing::Anew => row_of_waiting(client),
         Standing::Due => row_of_turn(offers),
         Standing::Answered => Row::Nothing,
-        Standing::Continued | Standing::Fresh => row_of_continued(client, situation.is_due),
+        Standing::Continued | Standing::Fresh => row_of_continued(client, situation.is_due()),
         Standing::Playing => row_of_game(client),
         _ => Row::Offers,
     }
 }
 
 /// What is said of a match that is off the table.
-fn row_of_saved(situation: &Situation, is_listed: bool) -> Row {
+fn row_of_saved(situation: &Situation, is_listed: bool) -> Row
+    ensures server { result ≢ Row.ServerPlays }
+    ensures undoubled { result ≢ Row.Undoubled }
+{
     match situation.standing {
         Standing::Invited => Row::Invited,
         Standing::Reopened => Row::Nothing,
-        _ if situation.opponent.is_empty() => Row::Nothing,
+        _ if situation.opponent.name.is_empty() => Row::Nothing,
         _ if is_listed => Row::Saved,
         _ => Row::Absent,
     }
 }
 
 /// Whether a state's row comes before that of a server that plays by itself.
-fn comes_first(standing: Standing) -> bool {
+fn comes_first(standing: Standing) -> bool
+    ensures { result ≡ comes_first standing }
+{
     matches!(
         standing,
         Standing::Resigned
@@ -338,7 +360,10 @@ fn row_of(
     aside: Aside,
     offers: &Offers,
     has_way: bool,
-) -> Row {
+) -> Row
+    ensures server { result ≡ Row.ServerPlays → comes_first situation.now.standing ≡ false }
+    ensures undoubled { result ≡ Row.Undoubled → offers.now.double ≡ true }
+{
     let standing = situation.standing;
     match client.refusal(&Decision::Roll) {
         Some(Refusal::Offline) => return Row::Nothing,
@@ -357,7 +382,7 @@ fn row_of(
             row_of_saved(situation, aside.is_listed)
         }
         _ => match row_in_game(client, situation, offers, has_way) {
-            Row::Offers if offers.double && situation.refuses_double => Row::Undoubled,
+            Row::Offers if offers.double && situation.refuses_double() => Row::Undoubled,
             // the board that is shown is one from before the double
             Row::Offers if offers.double && standing == Standing::Taken => Row::Accepted,
             row => row,

@@ -1,4 +1,6 @@
 //! The legal moves of a board.
+ghost use Rattle.std.specs.Prelude.{◌≡◌};
+ghost use Rattle.fibs_advice.specs.Listings.{all_plays};
 
 use crate::spelling::moves::place_of;
 use fibs_commands::decision_text;
@@ -35,7 +37,9 @@ pub struct Listing {
 
 impl Listing {
     /// All, from the first on.
-    pub fn of_all() -> Listing {
+    pub fn of_all() -> Listing
+        ensures { result ≡ all_plays }
+    {
         Listing {
             from: None,
             listed: 0,

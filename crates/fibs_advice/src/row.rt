@@ -145,9 +145,9 @@ impl Row {
             Row::Waits => b" was sent: board asks what became of it.\n",
             Row::Next => b"The game is over: join goes on, leave saves the match.\n",
             Row::Joined => b" has not joined yet.\n",
-            Row::Saved => b"Your match may be saved: invite ",
+            Row::Saved => b"Your match may be saved:",
             Row::Absent => b" is not here now: your match may be saved.\n",
-            Row::Invited => b"You are invited: join ",
+            Row::Invited => b"You are invited:",
         }
     }
 
@@ -157,7 +157,7 @@ impl Row {
     {
         match self {
             Row::Declined | Row::Same | Row::Back | Row::Invited => b"\n",
-            Row::Saved => b", if you are invited.\n",
+            Row::Saved => b"if you are invited.\n",
             _ => b"",
         }
     }

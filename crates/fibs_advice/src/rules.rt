@@ -1,5 +1,8 @@
 //! Which rule a move breaks.
-ghost use Rattle.std.specs.Prelude.{◌≤◌};
+ghost use Rattle.std.specs.Prelude.{◌≡◌, ◌≤◌, true, IfSome};
+ghost use Rattle.fibs_position.specs.PositionValue.{position_value};
+ghost use Rattle.fibs_rules.specs.Hop.{hop_of};
+ghost use Rattle.fibs_advice.specs.BrokenRules.{distance, holds, is_held, is_played_by};
 
 use fibs_commands::BAR;
 use fibs_fields::boards::fields::{FIRST_DIE, SECOND_DIE};
@@ -58,17 +61,23 @@ fn is_behind(position: &Position, steps: &[Step], place: u8) -> bool {
 }
 
 /// Whether the opponent holds a place.
-fn is_held(position: &Position, place: u8) -> bool {
+fn is_held(position: &Position, place: u8) -> bool
+    ensures { result ≡ is_held (position_value position.now).standing.checkers place }
+{
     place >= 1 && place <= 24 && position.other(place) >= 2
 }
 
 /// How many places a step takes.
-fn distance_of(step: &Step) -> u8 {
+fn distance_of(step: &Step) -> u8
+    ensures { result ≡ distance (hop_of step.now) }
+{
     step.source().saturating_sub(step.target())
 }
 
 /// Whether a die may play a step: the distance is that of a die, or a checker goes off by a larger one.
-fn is_played_by(die: u8, step: &Step) -> bool {
+fn is_played_by(die: u8, step: &Step) -> bool
+    ensures { result ≡ is_played_by die (hop_of step.now) }
+{
     let distance = distance_of(step);
     distance == die || (step.target() == 0 && distance < die)
 }
@@ -79,7 +88,10 @@ fn broken_by(
     dice: (u8, u8),
     before: &[Step],
     step: &Step,
-) -> Option<BrokenRule> {
+) -> Option<BrokenRule>
+    ensures { IfSome result (λ rule. holds (position_value position.now).standing.checkers dice.0 dice.1
+        (hop_of step.now) rule ≡ true) }
+{
     if step.source() != BAR && checkers_on(position, before, BAR) > 0 {
         return Some(BrokenRule::Bar);
     }
@@ -105,7 +117,11 @@ fn broken_by_bearing_off(
     dice: (u8, u8),
     before: &[Step],
     step: &Step,
-) -> Option<BrokenRule> {
+) -> Option<BrokenRule>
+    requires { (hop_of step.now).target ≡ 0 }
+    ensures { IfSome result (λ rule. holds (position_value position.now).standing.checkers dice.0 dice.1
+        (hop_of step.now) rule ≡ true) }
+{
     let distance = distance_of(step);
     if is_behind(position, before, LAST_OF_HOME) {
         Some(BrokenRule::Outside)

@@ -1,7 +1,7 @@
 //! How what is advised is said.
-ghost use Rattle.std.specs.Prelude.{◌≡◌, ◌++◌, codes, OnOk};
+ghost use Rattle.std.specs.Prelude.{◌≡◌, ◌++◌, OnOk, length, nat_lt, take};
 ghost use Rattle.fibs_advice.specs.Rows.{words_before, words_after};
-ghost use Rattle.fibs_advice.specs.Advised.{advice_text, beginning, goes_on_text, line_text, named_in, send_text, decision_word, invite_words, opponent_text, resumes_text, toggles_text};
+ghost use Rattle.fibs_advice.specs.Advised.{advice_text, beginning, gap, goes_on_text, line_text, named_in, send_text, decision_word, invite_words, invited_text, opponent_text, resumes_text, saved_text, toggles_text};
 
 use crate::advised::Advice;
 use crate::offers::{append_offers, first_way};
@@ -102,12 +102,38 @@ fn toggles_text(automove: bool, greedy: bool) -> &'static [u8]
     }
 }
 
+/// How much of a name is said that is not to be typed. A longer one takes a row of its own if it is.
+const MOST_NAMED: usize = 24;
+
+/// What is said of a name that is not to be typed.
+fn named(name: &[u8]) -> &[u8]
+    ensures { result.now ≡ take 24 name.now }
+{
+    &name[..name.len().min(MOST_NAMED)]
+}
+
+/// Whether a line with a name has a row of its own.
+fn is_long(name: &[u8]) -> bool
+    ensures { result ≡ nat_lt 24 (length name.now) }
+{
+    name.len() > MOST_NAMED
+}
+
+/// What comes before a line with a name, which is to be typed as it stands.
+pub fn gap(name: &[u8]) -> &'static [u8]
+    ensures { result.now ≡ gap name.now }
+{
+    if is_long(name) { b"\n" } else { b" " }
+}
+
 /// What comes before the opponent whom one invites, if there is one.
 fn invite_words(opponent: &[u8]) -> &'static [u8]
     ensures { result.now ≡ invite_words opponent.now }
 {
     if opponent.is_empty() {
         b""
+    } else if is_long(opponent) {
+        b", and\ninvite "
     } else {
         b", and invite "
     }
@@ -158,11 +184,24 @@ fn append_way_out(
 
 /// Appends an opponent with whom a match is resumed: whom one invites, or who invites.
 fn append_opponent(opponent: &[u8], text: &mut Vec<u8>) -> Result<(), AllocError>
-    ensures { OnOk result (text.new.items ≡ text.old.items ++ (opponent.now ++ (codes ",\nor join " ++ opponent.now))) }
+    ensures { OnOk result (text.new.items ≡ text.old.items ++ saved_text opponent.now) }
 {
+    text.extend_from_slice(gap(opponent))?;
+    text.extend_from_slice(b"invite ")?;
     text.extend_from_slice(opponent)?;
     text.extend_from_slice(b",\nor join ")?;
-    text.extend_from_slice(opponent)
+    text.extend_from_slice(opponent)?;
+    text.extend_from_slice(b",")?;
+    text.extend_from_slice(gap(opponent))
+}
+
+/// Appends how an invitation is accepted.
+pub fn append_join(inviter: &[u8], text: &mut Vec<u8>) -> Result<(), AllocError>
+    ensures { OnOk result (text.new.items ≡ text.old.items ++ invited_text inviter.now) }
+{
+    text.extend_from_slice(gap(inviter))?;
+    text.extend_from_slice(b"join ")?;
+    text.extend_from_slice(inviter)
 }
 
 /// Appends what a row names.
@@ -191,12 +230,13 @@ fn append_named(
         }
         Row::Thinks => append_goes_on(b"send ", direction, advice.send, text),
         Row::Saved => append_opponent(opponent, text),
-        Row::Invited => text.extend_from_slice(inviter),
+        Row::Invited => append_join(inviter, text),
         _ => Ok(()),
     }
 }
 
-/// Appends what is advised to a user who plays against this opponent, or whom this player invites.
+/// Appends what is advised to a user who plays against this opponent, or whom this player invites. A line that is to be
+/// typed has the whole name.
 pub fn append_advice(
     advice: &Advice,
     opponent: &[u8],
@@ -205,7 +245,7 @@ pub fn append_advice(
 ) -> Result<(), AllocError>
     ensures { OnOk result (text.new.items ≡ text.old.items ++ advice_text opponent.now inviter.now advice.now) }
 {
-    text.extend_from_slice(beginning(advice.row, opponent, advice.asked))?;
+    text.extend_from_slice(beginning(advice.row, named(opponent), advice.asked))?;
     text.extend_from_slice(advice.row.words_before())?;
     append_named(advice, opponent, inviter, text)?;
     text.extend_from_slice(advice.row.words_after())

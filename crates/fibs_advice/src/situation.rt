@@ -1,4 +1,11 @@
-//! What the user waits for, of whom, and on what.
+//! What the user waits for, of whom, and on what. Each part is in the box of what it is of: a connection, an opponent,
+//! a game, a turn, an invitation. When that ends its box is replaced by a new one.
+ghost use Rattle.std.specs.Prelude.{◌≡◌, ◌≢◌, ◌≤◌, ◌↔◌, ◌⊎◌, length, false, IsTrue};
+ghost use Rattle.arrayvec.specs.ArrayVec.{array_vec_len};
+ghost use Rattle.fibs_fields.specs.StoredBoard.{fields_of};
+ghost use Rattle.fibs_position.specs.GameOf.{game_of};
+ghost use Rattle.fibs_advice.specs.Situations.{IsNewOpponent, inviter_of, kept_of, met, new_game, new_turn, no_name, is_match_over, is_won, open_offer, opened_with, opponent_of};
+ghost use Rattle.fibs_advice.specs.Standings.{after_not_invited};
 
 use crate::standing::{Shown, Standing};
 use crate::told::{Report, Told, read_told};
@@ -9,6 +16,7 @@ use fibs_fields::split::split;
 use fibs_fields::trailing_spaces::without_spaces;
 use fibs_lines::LOGIN_PROMPT;
 use fibs_position::{GameBoard, Phase};
+use std::mem;
 
 /// The first words of the commands of decisions: those that are offers, which change no board, and the others.
 const OFFERS: [&[u8]; 2] = [b"double", b"resign"];
@@ -41,35 +49,136 @@ enum Left {
     Own,
 }
 
-/// What the user waits for, and what of it the client does not know.
+/// What was asked by `board`, and not answered.
+#[derive(Clone, Copy, Debug, PartialEq, Eq)]
+enum BoardAsked {
+    /// Nothing.
+    Nothing,
+    /// The board that comes, which says what the state is.
+    Now,
+    /// The same, before a line went as it is that decides, or a text came that may be the answer: the board says
+    /// nothing of that.
+    Before,
+}
+
+/// A turn: what the board that came last says of it.
+#[derive(Clone, Copy)]
+struct Turn {
+    /// Whether the user was to roll or to move on that board, until the opponent plays.
+    shown: Option<Told>,
+    /// Whether the user has the turn and has not decided, as far as is known. No offer of the opponent ends that.
+    is_due: bool,
+}
+
+/// A game.
+#[derive(Clone, Copy)]
+struct Game {
+    /// Whether the server has refused a double in it.
+    refuses_double: bool,
+    /// The turn.
+    turn: Turn,
+}
+
+/// An opponent, and the match with him.
+#[derive(Drop)]
+pub struct Opponent {
+    /// Who he is, by the board that came last, else by a text; empty if that is not known.
+    pub name: KeptName,
+    /// Whether he has logged in on this connection, and not out again. Servers need not list him then.
+    pub is_here: bool,
+    /// An offer of which nothing is known any more.
+    left: Left,
+    /// The game that is on the table, or was last.
+    game: Game,
+}
+
+/// An invitation.
+#[derive(Drop)]
+pub struct Inviter {
+    /// Who invites the user; empty if nobody does.
+    pub name: KeptName,
+    /// Whether that was said with the line to type.
+    pub is_told: bool,
+}
+
+/// What outlives a connection.
+#[derive(Drop)]
+pub struct Kept {
+    /// The opponent of the match that may have been saved.
+    opponent: KeptName,
+    /// The offer that was open in it.
+    left: Left,
+}
+
+/// What the user waits for on a connection, and what of it the client does not know.
 #[derive(Drop)]
 pub struct Situation {
     /// What the user waits for.
     pub standing: Standing,
-    /// The opponent of the board that came last, else of a text.
-    pub opponent: KeptName,
-    /// Who invites the user.
-    pub inviter: KeptName,
-    /// Whether the server has refused a double in this game.
-    pub refuses_double: bool,
-    /// Whether `board` was sent after the last decision, and no board has come since.
-    pub asks_board: bool,
+    /// The opponent, and the match with him.
+    pub opponent: Opponent,
+    /// The invitation.
+    pub inviter: Inviter,
+    /// What was asked by `board`.
+    asked: BoardAsked,
     /// What waits.
     waiting: Waiting,
-    /// Whether the user was to roll or to move on the board that came last, until the opponent plays.
-    turn: Option<Told>,
-    /// Whether the user has the turn and has not decided, as far as is known. No offer of the opponent ends that.
-    pub(crate) is_due: bool,
-    /// An offer of which nothing is known any more.
-    left: Left,
     /// Whether a login was sent on this connection, and the server has not greeted the user.
     logs_in: bool,
     /// Whether a message has come since that is not the greeting.
     hears_others: bool,
-    /// Whether the opponent has logged in on this connection, and not out again. Servers need not list him then.
-    pub is_opponent_here: bool,
     /// Whether the message of the day is being said: its lines may have any words.
-    is_motd: bool,
+    pub is_motd: bool,
+}
+
+impl Turn {
+    /// Nothing is known of it.
+    fn new() -> Turn
+        ensures { result ≡ new_turn }
+    {
+        Turn {
+            shown: None,
+            is_due: false,
+        }
+    }
+}
+
+impl Game {
+    /// None of its boards has come.
+    fn new() -> Game
+        ensures { result ≡ new_game }
+    {
+        Game {
+            refuses_double: false,
+            turn: Turn::new(),
+        }
+    }
+}
+
+impl Opponent {
+    /// A match of which nothing is known but the opponent, and the offer that was left open in it.
+    fn of(name: KeptName, left: Left) -> Opponent
+        ensures { result ≡ opponent_of name left }
+    {
+        Opponent {
+            name,
+            is_here: false,
+            left,
+            game: Game::new(),
+        }
+    }
+}
+
+impl Inviter {
+    /// Who invites the user; nothing was said of it.
+    fn of(name: KeptName) -> Inviter
+        ensures { result ≡ inviter_of name }
+    {
+        Inviter {
+            name,
+            is_told: false,
+        }
+    }
 }
 
 /// What waits after a command: None if it is no decision.
@@ -89,55 +198,118 @@ fn is_answer(line: &[u8]) -> bool {
     line == b"accept".as_slice() || line == b"reject".as_slice()
 }
 
-/// Keeps a name.
-fn keep_name(name: &[u8], kept: &mut KeptName) {
-    kept.clear();
+/// No name.
+pub fn nobody() -> KeptName
+    ensures { result ≡ no_name }
+{
+    KeptName::new()
+}
+
+/// A name that is kept.
+pub fn kept_name(name: &[u8]) -> KeptName
+    ensures { length name.now ≤ 64 → result.items ≡ name.now }
+{
+    let mut kept = KeptName::new();
     let _fits = kept.try_extend_from_slice(name);
+    kept
+}
+
+/// Whether two names are the same.
+pub fn is_same(name: &[u8], other: &[u8]) -> bool
+    ensures { IsTrue result ↔ (name.now ≡ other.now) }
+{
+    name == other
 }
 
 /// Whether a board says that the match is over: a player has the points of its length.
-fn is_match_over(board: &Board) -> bool {
-    let length = board.field(MATCH_LENGTH);
-    length != UNLIMITED && (board.field(OWN_SCORE) >= length || board.field(OTHER_SCORE) >= length)
+fn is_match_over(board: &Board) -> bool
+    ensures { result ≡ is_match_over (fields_of board.now) }
+{
+    is_won(
+        board.field(MATCH_LENGTH),
+        board.field(OWN_SCORE),
+        board.field(OTHER_SCORE),
+    )
+}
+
+/// Whether a match of this length is over, in which the sides have these points.
+fn is_won(length: i32, own: i32, other: i32) -> bool
+    ensures { result ≡ is_won length own other }
+{
+    length != UNLIMITED && (length <= own || length <= other)
 }
 
 impl Situation {
     /// Nothing was said.
     pub fn new() -> Situation {
-        Situation {
-            standing: Standing::Free,
-            opponent: KeptName::new(),
-            inviter: KeptName::new(),
-            refuses_double: false,
-            asks_board: false,
-            waiting: Waiting::Nothing,
-            turn: None,
-            is_due: false,
+        let mut situation = Situation::opened(Kept {
+            opponent: nobody(),
             left: Left::Nothing,
-            logs_in: false,
+        });
+        situation.logs_in = false;
+        situation
+    }
+
+    /// A connection was made, on which nothing waits: after another one, of which this is kept.
+    pub fn opened(kept: Kept) -> Situation
+        ensures { result ≡ opened_with kept }
+    {
+        Situation {
+            standing: if kept.opponent.is_empty() {
+                Standing::Free
+            } else {
+                Standing::Reopened
+            },
+            opponent: Opponent::of(kept.opponent, kept.left),
+            inviter: Inviter::of(nobody()),
+            asked: BoardAsked::Nothing,
+            waiting: Waiting::Nothing,
+            logs_in: true,
             hears_others: false,
-            is_opponent_here: false,
             is_motd: false,
         }
     }
 
-    /// A connection was made: nothing waits on it.
-    pub fn hear_opened(&mut self) {
-        self.left = self.open_offer();
-        self.standing = if self.opponent.is_empty() {
-            Standing::Free
+    /// What outlives the connection.
+    pub fn close(&mut self) -> Kept
+        ensures { result ≡ kept_of self.old }
+    {
+        Kept {
+            left: self.open_offer(),
+            opponent: mem::replace(&mut self.opponent.name, nobody()),
+        }
+    }
+
+    /// Whether `board` was sent after the last decision, and has not been answered.
+    pub fn asks_board(&self) -> bool {
+        self.asked == BoardAsked::Now
+    }
+
+    /// Whether a board that comes now was asked for.
+    pub fn awaits_board(&self) -> bool {
+        self.asked != BoardAsked::Nothing
+    }
+
+    /// The server has answered `board` by something else than a board of the user's game. True if that was asked after
+    /// the last decision. The text that the next game waits may have come by itself: then a board may follow.
+    pub fn hear_no_board(&mut self, may_follow: bool) -> bool {
+        let asks = self.asks_board();
+        self.asked = if may_follow && self.awaits_board() {
+            BoardAsked::Before
         } else {
-            Standing::Reopened
+            BoardAsked::Nothing
         };
-        self.refuses_double = false;
-        self.asks_board = false;
-        self.waiting = Waiting::Nothing;
-        self.turn = None;
-        self.is_due = false;
-        self.logs_in = true;
-        self.hears_others = false;
-        self.is_opponent_here = false;
-        self.is_motd = false;
+        asks
+    }
+
+    /// Whether the server has refused a double in this game.
+    pub fn refuses_double(&self) -> bool {
+        self.opponent.game.refuses_double
+    }
+
+    /// Whether the user has the turn and has not decided, as far as is known.
+    pub(crate) fn is_due(&self) -> bool {
+        self.opponent.game.turn.is_due
     }
 
     /// The server has greeted the user.
@@ -148,20 +320,47 @@ impl Situation {
     /// A player has logged in.
     pub fn hear_login(&mut self, name: &[u8]) {
         self.hears_others = true;
-        if self.opponent.as_slice() == name {
-            self.is_opponent_here = true;
+        if self.opponent.name.as_slice() == name {
+            self.opponent.is_here = true;
         }
     }
 
     /// A player has logged out: nobody is invited by him any more.
-    pub fn hear_logout(&mut self, name: &[u8]) {
+    pub fn hear_logout(&mut self, name: &[u8])
+        ensures left { self.old.opponent.name.items ≡ name.now → self.new.opponent.is_here ≡ false }
+        ensures over { self.old.inviter.name.items ≡ name.now →
+            self.new.standing ≡ after_not_invited self.old.standing }
+    {
         self.hears_others = true;
-        if self.opponent.as_slice() == name {
-            self.is_opponent_here = false;
+        if is_same(self.opponent.name.as_slice(), name) {
+            self.opponent.is_here = false;
         }
-        if self.inviter.as_slice() == name {
-            self.standing = self.standing.after_not_invited();
+        if is_same(self.inviter.name.as_slice(), name) {
+            self.wait_for(self.standing.after_not_invited());
         }
+    }
+
+    /// What the user waits for from now on. An invitation ends when he waits for something else.
+    fn wait_for(&mut self, standing: Standing)
+        ensures standing { self.new.standing ≡ standing }
+        ensures opponent { self.new.opponent ≡ self.old.opponent }
+        ensures invited { standing ≢ Standing.Invited → self.new.inviter ≡ inviter_of no_name }
+    {
+        if standing != Standing::Invited {
+            self.inviter = Inviter::of(nobody());
+        }
+        self.standing = standing;
+    }
+
+    /// The user has decided: nothing that was left open before counts.
+    fn end_turn(&mut self)
+        ensures left { self.new.opponent.left ≡ Left.Nothing }
+        ensures due { self.new.opponent.game.turn.is_due ≡ false }
+        ensures asked { self.new.asked ≡ self.old.asked }
+    {
+        self.opponent.left = Left::Nothing;
+        self.opponent.game.turn.is_due = false;
+        self.standing = self.standing.after_sent();
     }
 
     /// The message of the day begins, or ends.
@@ -176,19 +375,21 @@ impl Situation {
     }
 
     /// The user has sent a command, and the client has taken note of it. True if it is a decision.
-    pub fn hear_sent(&mut self, command: &[u8]) -> bool {
+    pub fn hear_sent(&mut self, command: &[u8]) -> bool
+        ensures left { IsTrue result → self.new.opponent.left ≡ Left.Nothing }
+        ensures due { IsTrue result → self.new.opponent.game.turn.is_due ≡ false }
+        ensures asked { IsTrue result → self.new.asked ≡ BoardAsked.Nothing }
+    {
         if let Some(waiting) = decision_in(command) {
             self.waiting = waiting;
-            self.asks_board = false;
-            self.is_due = false;
-            self.left = Left::Nothing;
-            self.standing = self.standing.after_sent();
+            self.asked = BoardAsked::Nothing;
+            self.end_turn();
             return true;
         }
         if command == b"board".as_slice() {
-            self.asks_board = true;
+            self.asked = BoardAsked::Now;
         } else if command == b"bye".as_slice() {
-            self.left = self.open_offer();
+            self.opponent.left = self.open_offer();
             self.standing = self.standing.after_bye();
         }
         false
@@ -197,52 +398,80 @@ impl Situation {
     /// The user has sent a line as it is.
     pub fn hear_passed(&mut self, line: &[u8]) {
         if is_answer(without_spaces(line)) {
-            self.asks_board = false;
+            self.ask_before();
             self.standing = self.standing.after_answer();
         } else if decision_in(line).is_some() {
-            self.asks_board = false;
-            self.is_due = false;
-            self.left = Left::Nothing;
-            self.standing = self.standing.after_sent();
+            self.ask_before();
+            self.end_turn();
+        }
+    }
+
+    /// What was asked by `board` was asked before what comes now.
+    fn ask_before(&mut self) {
+        if self.asked == BoardAsked::Now {
+            self.asked = BoardAsked::Before;
         }
     }
 
     /// Whether a text is of others: of a game that the user watches.
     fn is_of_others(&self, report: &Report<'_>) -> bool {
         report.told.is_of_opponent()
-            && !self.opponent.is_empty()
-            && self.opponent.as_slice() != report.name
+            && !self.opponent.name.is_empty()
+            && self.opponent.name.as_slice() != report.name
     }
 
     /// Whether a text says that it is the user's turn, of the board on which the decision was made that was sent: it
     /// was on its way then.
     fn is_of_old_board(&self, told: Told) -> bool {
-        self.standing == Standing::Asked && self.turn == Some(told)
+        self.standing == Standing::Asked && self.opponent.game.turn.shown == Some(told)
     }
 
-    /// Keeps the name of the opponent. Of another one it is not known whether he has come.
-    fn keep_opponent(&mut self, name: &[u8]) {
-        if self.opponent.as_slice() != name {
-            self.is_opponent_here = false;
-            keep_name(name, &mut self.opponent);
+    /// The opponent is known by his name. With another one it is another match, of which nothing is known.
+    fn meet(&mut self, name: &[u8])
+        ensures same { self.old.opponent.name.items ≡ name.now → self.new ≡ self.old }
+        ensures another { array_vec_len self.old.opponent.name ≢ 0 → self.old.opponent.name.items ≢ name.now →
+            self.new ≡ met self.old self.new.opponent.name }
+    {
+        if is_same(self.opponent.name.as_slice(), name) {
+            return;
         }
+        if self.opponent.name.is_empty() {
+            self.opponent.name = kept_name(name);
+        } else {
+            self.opponent = Opponent::of(kept_name(name), Left::Nothing);
+            self.standing = self.standing.after_another();
+        }
+    }
+
+    /// The match with the opponent is over, or there is none.
+    fn part(&mut self)
+        ensures { self.new ≡ record self.old { opponent = opponent_of no_name Left.Nothing } }
+    {
+        self.opponent = Opponent::of(nobody(), Left::Nothing);
     }
 
     /// Keeps the name that a text has: of who invites the user, or of the opponent.
     fn keep_name_of(&mut self, report: &Report<'_>) {
-        if report.name.is_empty() {
-            return;
-        }
         match report.told {
-            Told::Invited => keep_name(report.name, &mut self.inviter),
-            Told::Begins | Told::Resumes | Told::Joined => self.keep_opponent(report.name),
-            _ if self.opponent.is_empty() => self.keep_opponent(report.name),
+            Told::Invited => self.keep_inviter(report.name),
+            _ if report.name.is_empty() => {}
+            Told::Begins | Told::Resumes | Told::Joined => self.meet(report.name),
+            _ if self.opponent.name.is_empty() => self.meet(report.name),
             _ => {}
         }
     }
 
+    /// Keeps who invites the user. By another one it is another invitation.
+    fn keep_inviter(&mut self, name: &[u8]) {
+        if self.inviter.name.as_slice() != name {
+            self.inviter = Inviter::of(kept_name(name));
+        }
+    }
+
     /// Hears a text of the server. What it says of the match, if it says anything that counts.
-    pub fn hear_text(&mut self, text: &[u8]) -> Option<Told> {
+    pub fn hear_text(&mut self, text: &[u8]) -> Option<Told>
+        ensures game { (result ≡ Some Told.Begins) ⊎ (result ≡ Some Told.Resumes) → self.new.opponent.game ≡ new_game }
+    {
         if self.is_motd {
             return None;
         }
@@ -257,26 +486,32 @@ impl Situation {
     /// Takes note of what a text says of the turn. A decision that is refused while one waits is the one that waits,
     /// unless an offer was just answered.
     fn note_turn(&mut self, told: Told) {
-        match told {
-            Told::ToRoll | Told::ToMove => self.is_due = true,
+        let turn = self.opponent.game.turn;
+        let is_due = match told {
+            Told::ToRoll | Told::ToMove => true,
             Told::Refused | Told::NoDouble | Told::MustAnswer
-                if self.waiting != Waiting::Nothing && self.standing != Standing::Answered => {
-                self.is_due = true;
-            }
+                if self.waiting != Waiting::Nothing && self.standing != Standing::Answered => true,
             // no offer was open that gave the turn away
-            Told::NoOffer if self.standing.has_offer() => self.is_due = self.turn.is_some(),
-            Told::Plays | Told::Begins | Told::Resumes => self.is_due = false,
-            _ => {}
-        }
+            Told::NoOffer if self.standing.has_offer() => turn.shown.is_some(),
+            Told::Plays => false,
+            _ => turn.is_due,
+        };
+        let shown = if told == Told::Plays {
+            None
+        } else {
+            turn.shown
+        };
+        self.opponent.game.turn = Turn { shown, is_due };
     }
 
     /// The offer that is open, or of which nothing is known any more.
-    fn open_offer(&self) -> Left {
-        match self.standing {
-            Standing::Offered => Left::Own,
-            Standing::Asked if self.waiting == Waiting::Offer => Left::Own,
+    fn open_offer(&self) -> Left
+        ensures { result ≡ open_offer self.now }
+    {
+        match (self.standing, self.waiting) {
+            (Standing::Offered, _) | (Standing::Asked, Waiting::Offer) => Left::Own,
             _ if self.standing.has_offer() => Left::Theirs,
-            _ => self.left,
+            _ => self.opponent.left,
         }
     }
 
@@ -284,17 +519,22 @@ impl Situation {
     fn left_after(&self, report: &Report<'_>) -> Left {
         match report.told {
             Told::Saved | Told::NotPlaying => self.open_offer(),
-            Told::Resumes if self.opponent.as_slice() == report.name => self.left,
-            Told::Invited | Told::NotInvited => self.left,
+            Told::Resumes if self.opponent.name.as_slice() == report.name => self.opponent.left,
+            Told::Invited | Told::NotInvited => self.opponent.left,
             _ => Left::Nothing,
         }
     }
 
     /// Whether a text denies a match or an invitation of another player than of whom one is known.
-    fn denies_another(&self, report: &Report<'_>) -> bool {
+    fn denies_another(&self, report: &Report<'_>) -> bool
+        ensures begins { report.now.told ≡ Told.Begins → result ≡ false }
+        ensures resumes { report.now.told ≡ Told.Resumes → result ≡ false }
+    {
         match report.told {
-            Told::NoMatch => self.opponent.as_slice() != report.name,
-            Told::NotInvited => !report.name.is_empty() && self.inviter.as_slice() != report.name,
+            Told::NoMatch => self.opponent.name.as_slice() != report.name,
+            Told::NotInvited => {
+                !report.name.is_empty() && self.inviter.name.as_slice() != report.name
+            }
             _ => false,
         }
     }
@@ -309,25 +549,28 @@ impl Situation {
     }
 
     /// Hears what a text says.
-    fn hear_report(&mut self, report: &Report<'_>) {
+    fn hear_report(&mut self, report: &Report<'_>)
+        ensures begins { report.now.told ≡ Told.Begins → self.new.opponent.game ≡ new_game }
+        ensures resumes { report.now.told ≡ Told.Resumes → self.new.opponent.game ≡ new_game }
+    {
         if self.denies_another(report) {
             return;
         }
-        self.left = self.left_after(report);
+        let left = self.left_after(report);
         self.note_turn(report.told);
         let after = self.standing.after(report.told);
         if self.keeps_name(report.told, after) {
             self.keep_name_of(report);
         }
+        self.opponent.left = left;
         match report.told {
-            Told::Begins | Told::Resumes => self.refuses_double = false,
-            Told::NoDouble => self.refuses_double = true,
-            Told::Plays => self.turn = None,
-            Told::MatchOver if after != self.standing => self.opponent.clear(),
-            Told::NoMatch if !self.standing.is_in_match() => self.opponent.clear(),
+            Told::Begins | Told::Resumes => self.opponent.game = Game::new(),
+            Told::NoDouble => self.opponent.game.refuses_double = true,
+            Told::MatchOver if after != self.standing => self.part(),
+            Told::NoMatch if !self.standing.is_in_match() => self.part(),
             _ => {}
         }
-        self.standing = after;
+        self.wait_for(after);
         self.note_given_turn();
     }
 
@@ -345,18 +588,22 @@ impl Situation {
     }
 
     /// Hears a board of the user's game. If it confirms the decision that waits, that is said next.
-    pub fn hear_board(&mut self, game: &GameBoard) {
-        self.keep_opponent(game.board().opponent().bytes());
+    pub fn hear_board(&mut self, game: &GameBoard)
+        ensures another { array_vec_len self.old.opponent.name ≢ 0 →
+            self.old.opponent.name.items ≢ (game_of game.now).opponent → IsNewOpponent self.new.opponent }
+        ensures asked { self.new.asked ≡ BoardAsked.Nothing }
+    {
+        self.meet(game.board().opponent().bytes());
         let shown = self.shown_by(game);
-        self.standing = self.standing.after_board(shown, self.asks_board);
-        self.asks_board = false;
+        self.wait_for(self.standing.after_board(shown, self.asks_board()));
+        self.asked = BoardAsked::Nothing;
         // what the server says of it, if it is the user's
-        self.turn = match game.phase() {
+        self.opponent.game.turn.shown = match game.phase() {
             Phase::RollOrDouble => Some(Told::ToRoll),
             Phase::Move => Some(Told::ToMove),
             Phase::Over | Phase::AnswerDouble | Phase::OpponentActs | Phase::Passing => None,
         };
-        self.note_due();
+        self.opponent.game.turn.is_due = self.is_due_now();
         self.note_given_turn();
         self.note_left(game.phase());
     }
@@ -364,8 +611,13 @@ impl Situation {
     /// Takes note of an offer of which nothing is known any more. The opponent may wait for the answer to his if a
     /// board shows that he has the turn, or gives it to the user before the dice; he may still have the user's while
     /// that has the turn. Else the board says what is to be done.
-    fn note_left(&mut self, phase: Phase) {
-        let (left, unsure) = match (self.left, phase) {
+    fn note_left(&mut self, phase: Phase)
+        ensures here { self.new.opponent.is_here ≡ self.old.opponent.is_here }
+        ensures left { self.old.opponent.left ≡ Left.Nothing → self.new.opponent.left ≡ Left.Nothing }
+        ensures double { self.new.opponent.game.refuses_double ≡ self.old.opponent.game.refuses_double }
+        ensures asked { self.new.asked ≡ self.old.asked }
+    {
+        let (left, unsure) = match (self.opponent.left, phase) {
             (Left::Theirs, Phase::OpponentActs | Phase::RollOrDouble) => (
                 Left::Theirs,
                 Standing::Unsettled,
@@ -373,31 +625,38 @@ impl Situation {
             (Left::Own, Phase::RollOrDouble | Phase::Move) => (Left::Own, Standing::Unanswered),
             _ => (Left::Nothing, self.standing),
         };
-        self.left = left;
+        self.opponent.left = left;
         if left != Left::Nothing && self.standing == Standing::Playing {
             self.standing = unsure;
-            self.is_due = false;
+            self.opponent.game.turn.is_due = false;
         }
     }
 
     /// Takes note of a turn that a board gives away below an offer to resign: the user did not have it, and has no
     /// dice.
-    fn note_given_turn(&mut self) {
-        self.standing = match (self.standing, self.turn) {
-            (Standing::Resigned | Standing::Owed, Some(Told::ToRoll)) if !self.is_due =>
+    fn note_given_turn(&mut self)
+        ensures opponent { self.new.opponent ≡ self.old.opponent }
+        ensures asked { self.new.asked ≡ self.old.asked }
+    {
+        let turn = self.opponent.game.turn;
+        self.standing = match (self.standing, turn.shown) {
+            (Standing::Resigned | Standing::Owed, Some(Told::ToRoll)) if !turn.is_due =>
                 Standing::Conceded,
             (Standing::Conceded, Some(Told::ToMove)) => Standing::Resigned,
             _ => self.standing,
         };
     }
 
-    /// Takes note of the turn that a board shows, if no decision waits that was made before it. A board that may show
+    /// Whether the user has the turn after a board, if no decision waits that was made before it. A board that may show
     /// an offer to resign gives the turn away: then the user's dice alone say that the turn is his.
-    fn note_due(&mut self) {
+    fn is_due_now(&self) -> bool {
+        let turn = self.opponent.game.turn;
         let has_offer = self.standing.owes_answer() || self.standing == Standing::Answered;
-        let is_hidden = has_offer && self.turn != Some(Told::ToMove);
-        if !is_hidden && (self.waiting == Waiting::Nothing || self.standing.repeats()) {
-            self.is_due = self.turn.is_some();
+        let is_hidden = has_offer && turn.shown != Some(Told::ToMove);
+        if is_hidden || (self.waiting != Waiting::Nothing && !self.standing.repeats()) {
+            turn.is_due
+        } else {
+            turn.shown.is_some()
         }
     }
 
@@ -405,6 +664,6 @@ impl Situation {
     pub fn hear_confirmed(&mut self) {
         self.waiting = Waiting::Nothing;
         self.standing = self.standing.after_confirmed();
-        self.note_due();
+        self.opponent.game.turn.is_due = self.is_due_now();
     }
 }

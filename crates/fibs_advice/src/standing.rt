@@ -1,6 +1,7 @@
 //! What the user waits for.
 ghost use Rattle.std.specs.Prelude.{◌≡◌};
-ghost use Rattle.fibs_advice.specs.Standings.{hides_offers, is_unsure, repeats, owes_answer};
+ghost use Rattle.fibs_advice.specs.Situations.{after_another};
+ghost use Rattle.fibs_advice.specs.Standings.{after_not_invited, has_offer, hides_offers, is_in_match, is_unsure, owes_answer, repeats};
 
 use crate::told::Told;
 
@@ -137,7 +138,9 @@ impl Standing {
     }
 
     /// Whether a match is on the table.
-    pub(crate) fn is_in_match(self) -> bool {
+    pub(crate) fn is_in_match(self) -> bool
+        ensures { result ≡ is_in_match self }
+    {
         !matches!(
             self,
             Standing::Free | Standing::Invited | Standing::Gone | Standing::Reopened
@@ -205,7 +208,9 @@ impl Standing {
     }
 
     /// The state after an invitation has come to nothing: a match that was saved before it still is.
-    pub fn after_not_invited(self) -> Standing {
+    pub fn after_not_invited(self) -> Standing
+        ensures { result ≡ after_not_invited self }
+    {
         match self {
             Standing::Invited => Standing::Gone,
             _ => self,
@@ -249,8 +254,10 @@ impl Standing {
     }
 
     /// Whether an offer of the opponent is told by texts, or was just answered.
-    pub fn has_offer(self) -> bool {
-        self == Standing::Answered || self.is_told_by_text()
+    pub fn has_offer(self) -> bool
+        ensures { result ≡ has_offer self }
+    {
+        matches!(self, Standing::Answered | Standing::Doubled) || self.owes_answer()
     }
 
     /// Whether a refusal changes nothing: an offer of the opponent, or his answer, is known.
@@ -324,11 +331,13 @@ impl Standing {
         if asked { Standing::Owed } else { self }
     }
 
-    /// The state after the board on which an offer was made: it says nothing of the offer.
+    /// The state after the board on which an offer was made: it says nothing of the offer. If it was asked for after an
+    /// offer was answered, the game is as it was.
     fn after_offer_stands(self, asked: bool) -> Standing {
         match self {
             Standing::Due => Standing::Same,
             Standing::Asked if asked => Standing::Offered,
+            Standing::Answered | Standing::Taken if asked => Standing::Same,
             _ => self.after_old_board(),
         }
     }
@@ -337,7 +346,7 @@ impl Standing {
     fn after_stands(self, asked: bool) -> Standing {
         match self {
             Standing::Refused | Standing::Due => Standing::Same,
-            Standing::Asked if asked => Standing::Same,
+            Standing::Asked | Standing::Answered | Standing::Taken if asked => Standing::Same,
             _ => self.after_old_board(),
         }
     }
@@ -376,6 +385,17 @@ impl Standing {
             Standing::Asked
         } else {
             self
+        }
+    }
+
+    /// The state before the first board of another opponent.
+    pub(crate) fn after_another(self) -> Standing
+        ensures { result ≡ after_another self }
+    {
+        if self.is_in_match() {
+            Standing::Fresh
+        } else {
+            Standing::Free
         }
     }
 

@@ -73,3 +73,9 @@ go_is_none t = refl
 pub never_go : (t : Talk) (line : List ℕ) → line ≡ codes "go" → true ≡ is_command (typed_now t line) → ⊥
 never_go t line same known =
     false≢true (sym (known ∙ ap (λ text. is_command (typed_now t text)) same ∙ go_is_none t))
+
+-- what the client knows is not a line that it does not know
+pub never_known : (t : Talk) (line text : List ℕ) → text ≡ line → true ≡ is_command (typed_now t text)
+    → is_command (typed_now t line) ≡ false → ⊥
+never_known t line text same known unknown =
+    false≢true (sym (known ∙ ap (λ x. is_command (typed_now t x)) same ∙ unknown))

@@ -1,5 +1,5 @@
 -- What a typed line asks for (the project's own).
-use Rattle.std.specs.Prelude.{◌≡◌, true, false, ℕ, nat_lt, length, List, [], None, Result, IfOk}
+use Rattle.std.specs.Prelude.{◌≡◌, ◌++◌, true, false, ℕ, nat_lt, length, List, [], codes, None, Result, IfOk}
 use Rattle.fibs_session.specs.History.Machine.{Talk}
 use Rattle.fibs_session.specs.Calls.Standing.{ClientValue, StandsAfter}
 use Rattle.fibs_session.specs.Typing.{typed_now, is_command, would_take}
@@ -17,6 +17,10 @@ abbrev pub KnownGoesOn : {E : Type 0} → ClientValue → List ℕ → List ℕ 
 KnownGoesOn client before after result = IfOk result (λ wish. (t : Talk) → StandsAfter client t
     → is_command (typed_now t before) ≡ true
     → (after ≡ before) × (nat_lt 0 (length before) ≡ true → nat_lt typed_limit (length before) ≡ false → wish ≡ Say))
+
+-- what `re` tells to who spoke last, by his whole name
+abbrev pub tell_line : List ℕ → List ℕ → List ℕ
+tell_line speaker text = codes "tell " ++ (speaker ++ (codes " " ++ text))
 
 -- a line goes as it is only if the client would not take it
 abbrev pub SendsUntaken : {E : Type 0} → ClientValue → List ℕ → Result Wish E → Type 0

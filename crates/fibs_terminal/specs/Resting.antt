@@ -1,5 +1,5 @@
 -- What a terminal shows before the user types (the project's own).
-use Rattle.std.specs.Prelude.{◌≡◌, ◌++◌, ◌⊎◌, ℕ, Bool, true, false, List, [], Option, take}
+use Rattle.std.specs.Prelude.{◌≡◌, ◌++◌, ◌⊎◌, ℕ, Bool, true, false, List, [], Option}
 use Rattle.std.specs.Io.KnownBytes.{Appends}
 use Rattle.fibs_session.specs.History.Machine.{Talk}
 use Rattle.fibs_session.specs.Calls.Standing.{ClientValue, StandsAfter}
@@ -9,9 +9,9 @@ use Rattle.fibs_advice.specs.declared.advised.Advice.{Advice}
 use Rattle.fibs_advice.specs.declared.situation.Situation.{Situation}
 use Rattle.fibs_terminal.specs.declared.memory.Memory.{Memory}
 
--- how an advice is said: of a name the first 24 bytes
+-- how an advice is said
 abbrev pub row_of : Situation → Advice → List ℕ
-row_of situation a = advice_text (take 24 situation.opponent.items) (take 24 situation.inviter.items) a
+row_of situation a = advice_text situation.opponent.name.items situation.inviter.name.items a
 
 -- what is written is the row of an advice, or nothing; and it is the row if a board has come since, or a line was sent,
 -- and the row is not one that is said only if the user asks
@@ -22,8 +22,8 @@ pub record SaysRow (situation : Situation) (says_again : Bool) (a : Advice) (bef
 -- it is made of what may be advised now, by the history, in the state that the terminal has
 abbrev pub SaysAdvice : ClientValue → Memory → List ℕ → List ℕ → Type 0
 SaysAdvice client memory before after = (a : Advice)
-    × ((t : Talk) → StandsAfter client t → Advises t memory.situation.standing a)
-    × SaysRow memory.situation memory.advising.says_again a before after
+    × ((t : Talk) → StandsAfter client t → Advises t memory.here.situation.standing a)
+    × SaysRow memory.here.situation memory.here.advising.says_again a before after
 
 -- the same for a writer
 abbrev pub ShowsAdvice : ClientValue → Memory → Option (List ℕ) → Option (List ℕ) → Type 0

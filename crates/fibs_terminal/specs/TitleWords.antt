@@ -9,6 +9,12 @@ keep_title = 27 ∷ codes "[22;0t"
 abbrev pub set_title : List ℕ → List ℕ
 set_title words = (27 ∷ codes "]2;") ++ (words ++ (27 ∷ 92 ∷ []))
 
+-- what a title says: what the game says; without one that there is none, if the window had a title of a game before
+abbrev pub title_words : List ℕ → List ℕ → List ℕ
+title_words [] [] = []
+title_words (byte ∷ shown) [] = codes "fibs"
+title_words shown (byte ∷ game) = byte ∷ game
+
 -- what is written stays as it is, or the title comes before it
 abbrev pub PutsTitle : List ℕ → List ℕ → List ℕ → Type 0
 PutsTitle words before after =

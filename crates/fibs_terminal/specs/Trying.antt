@@ -1,12 +1,14 @@
 -- A move that the user looks at before it is sent: what `try` shows of it, what `go` sends (the project's own).
-use Rattle.std.specs.Prelude.{◌≡◌, ◌⊎◌, ◌++◌, ℕ, List, [], codes, true, Option, Some, None, IfSome, Result, IfOk}
+use Rattle.std.specs.Prelude.{◌≡◌, ◌⊎◌, ◌++◌, ℕ, List, [], codes, length, nat_lt, true, false, Option, Some, None, IfSome, Result, IfOk, OnOk}
 use Rattle.std.specs.Io.KnownBytes.{Appends}
 use Rattle.fibs_fields.specs.Board.{BoardFields}
 use Rattle.fibs_position.specs.DirectionOf.{direction_of}
 use Rattle.fibs_commands.specs.Commands.{command_of}
 use Rattle.fibs_session.specs.History.Machine.{Talk, shown_now, answer_now}
 use Rattle.fibs_session.specs.Calls.Standing.{ClientValue, StandsAfter}
-use Rattle.fibs_session.specs.Typing.{typed_now, typed_decision}
+use Rattle.fibs_session.specs.Typing.{typed_now, typed_decision, is_command}
+use Rattle.fibs_fields.specs.Split.{before}
+use Rattle.fibs_connect.specs.Wishes.{typed_limit}
 use Rattle.fibs_wording.specs.declared.environment.settings.Settings.{Settings}
 use Rattle.fibs_terminal.specs.Drawings.{DrawsBoard, TellsBoard, is_plain, is_worded}
 use Rattle.fibs_connect.specs.declared.wish.Wish.{Wish}
@@ -46,6 +48,25 @@ Tries client s kept before after = IfSome kept (λ x. ((t : Talk) → StandsAfte
 -- any other word leaves the move that is kept
 abbrev pub TriesOrKeeps : ClientValue → Settings → Option Trial → Option Trial → List ℕ → List ℕ → Type 0
 TriesOrKeeps client s old kept before after = (kept ≡ old) ⊎ Tries client s kept before after
+
+-- a line whose first word is `try`, which is not too long, and which the client does not know
+pub record IsTry (client : ClientValue) (line : List ℕ) : Type 0 where
+  pub word : before 32 line ≡ codes "try"
+  pub room : nat_lt typed_limit (length line) ≡ false
+  pub talk : Talk
+  pub stands : StandsAfter client talk
+  pub unknown : is_command (typed_now talk line) ≡ false
+
+-- after it no move is kept but the one that was shown: so what `go` sends is what the last `try` showed
+abbrev pub ShowsTry : {E : Type 0} → ClientValue → Settings → List ℕ → Option Trial → List ℕ → List ℕ → Result Wish E
+    → Type 0
+ShowsTry client s line kept start now result = IsTry client line → OnOk result (Tries client s kept start now)
+
+-- the same for a writer
+abbrev pub WritesTry : {E : Type 0} → ClientValue → Settings → List ℕ → Option Trial → Option (List ℕ)
+    → Option (List ℕ) → Result Wish E → Type 0
+WritesTry client s line kept held now result = IsTry client line
+    → OnOk result ((text : List ℕ) × Tries client s kept [] text × Appends held now text)
 
 -- the same for a writer
 abbrev pub ShowsTried : ClientValue → Settings → Option Trial → Option Trial → Option (List ℕ) → Option (List ℕ)

@@ -2,8 +2,8 @@
 ghost use Rattle.std.specs.Prelude.{◌≡◌, ◌≤◌, length, codes, true, Some, IfOk, OnOk};
 ghost use Rattle.fibs_connect.specs.Wishes.{wish_value};
 ghost use Rattle.fibs_terminal.specs.Asking.{AsksInBounds, KnownGoesOn, SendsUntaken};
-ghost use Rattle.fibs_terminal.specs.Trying.{GoesOn, Tries, TriesOrKeeps};
-ghost use Rattle.fibs_terminal.specs.declared.commands.Own.TheVariants.{Go};
+ghost use Rattle.fibs_fields.specs.Split.{before};
+ghost use Rattle.fibs_terminal.specs.Trying.{GoesOn, ShowsTry, Tries, TriesOrKeeps};
 
 use crate::drawing::{Watching, append_watched_words, append_words};
 use crate::looking::{TRY_WHAT, trial_of};
@@ -79,7 +79,8 @@ const TALK_WORDS: [&[u8]; 2] = [b"open", b"quit"];
 
 /// The word of the terminal that a word is, if it is one.
 fn own_word(word: &[u8]) -> Option<Own>
-    ensures { word.now ≡ codes "go" → result ≡ Some Go }
+    ensures go { word.now ≡ codes "go" → result ≡ Some Own.Go }
+    ensures tries { word.now ≡ codes "try" → result ≡ Some Own.Try }
 {
     match word {
         b"help" => Some(Own::Here(Here::Help)),
@@ -103,7 +104,8 @@ fn own_word(word: &[u8]) -> Option<Own>
 
 /// Whether a line is a word of the conversation, or begins with a word of the terminal.
 fn is_own(line: &[u8]) -> bool
-    ensures { line.now ≡ codes "go" → result ≡ true }
+    ensures go { line.now ≡ codes "go" → result ≡ true }
+    ensures tries { before 32 line.now ≡ codes "try" → result ≡ true }
 {
     TALK_WORDS.contains(&line) || own_word(split(line, b' ').0).is_some()
 }
@@ -126,7 +128,8 @@ pub(crate) fn set_line(line: &mut TypedLine, bytes: &[u8])
 
 /// Respells a line, if the client then knows it, or if it then begins with a word of the terminal.
 fn spell(alloc: Global, client: &Client, line: &mut TypedLine) -> Result<(), AllocError>
-    ensures { line.old.items ≡ codes "go" → line.new.items ≡ line.old.items }
+    ensures go { line.old.items ≡ codes "go" → line.new.items ≡ line.old.items }
+    ensures tries { before 32 line.old.items ≡ codes "try" → line.new.items ≡ line.old.items }
 {
     if is_own(line.as_slice()) {
         return Ok(());
@@ -155,9 +158,8 @@ fn spell_passed(alloc: Global, line: &mut TypedLine, spelled: &[u8]) -> Result<(
     Ok(())
 }
 
-/// Keeps which rule a move breaks, if the line is a move against the rules.
+/// Keeps which rule a move breaks, if the line is a move against the rules. None is kept of a line before.
 fn note_rule(client: &Client, line: &[u8], rule: &mut Vec<u8>) -> Result<(), AllocError> {
-    rule.clear();
     let Typed::Decision(decision) = read_typed(client, line) else {
         return Ok(());
     };
@@ -318,9 +320,11 @@ impl<'a> Screen<'a> {
         ensures asks { IfOk result (λ wish. AsksInBounds line.old.items (wish_value wish line.new.items)) }
         ensures known { KnownGoesOn client.now line.old.items line.new.items result }
         ensures sent { SendsUntaken client.now line.new.items result }
-        ensures tried { OnOk result (TriesOrKeeps client.now self.old.page.settings self.old.memory.looking.trial
-            self.new.memory.looking.trial self.old.page.text.items self.new.page.text.items) }
-        ensures went { GoesOn client.now self.old.memory.looking.trial line.old.items line.new.items result }
+        ensures tried { OnOk result (TriesOrKeeps client.now self.old.page.settings self.old.memory.here.looking.trial
+            self.new.memory.here.looking.trial self.old.page.text.items self.new.page.text.items) }
+        ensures went { GoesOn client.now self.old.memory.here.looking.trial line.old.items line.new.items result }
+        ensures shown { ShowsTry client.now self.old.page.settings line.old.items self.new.memory.here.looking.trial
+            self.old.page.text.items self.new.page.text.items result }
     {
         if line.is_empty() {
             return Ok(Wish::Listen);
@@ -328,8 +332,10 @@ impl<'a> Screen<'a> {
         if line.len() > TYPED_LIMIT {
             return Ok(Wish::TooLong);
         }
+        let alloc = self.page.alloc;
+        self.memory.here.rule = Vec::new(alloc);
         if is_command(client, line.as_slice()) {
-            note_rule(client, line.as_slice(), &mut self.memory.rule)?;
+            note_rule(client, line.as_slice(), &mut self.memory.here.rule)?;
             return Ok(Wish::Say);
         }
         self.wish_unknown(client, directory, line)
@@ -343,9 +349,11 @@ impl<'a> Screen<'a> {
         line: &mut TypedLine,
     ) -> Result<Wish, AllocError>
         ensures sent { SendsUntaken client.now line.new.items result }
-        ensures tried { OnOk result (TriesOrKeeps client.now self.old.page.settings self.old.memory.looking.trial
-            self.new.memory.looking.trial self.old.page.text.items self.new.page.text.items) }
-        ensures went { GoesOn client.now self.old.memory.looking.trial line.old.items line.new.items result }
+        ensures tried { OnOk result (TriesOrKeeps client.now self.old.page.settings self.old.memory.here.looking.trial
+            self.new.memory.here.looking.trial self.old.page.text.items self.new.page.text.items) }
+        ensures went { GoesOn client.now self.old.memory.here.looking.trial line.old.items line.new.items result }
+        ensures shown { before 32 line.old.items ≡ codes "try" → OnOk result (Tries client.now self.old.page.settings
+            self.new.memory.here.looking.trial self.old.page.text.items self.new.page.text.items) }
     {
         let alloc = self.page.alloc;
         spell(alloc, client, line)?;
@@ -355,7 +363,7 @@ impl<'a> Screen<'a> {
         if line.as_slice() == b"quit".as_slice() {
             return Ok(Wish::Quit);
         }
-        note_rule(client, line.as_slice(), &mut self.memory.rule)?;
+        note_rule(client, line.as_slice(), &mut self.memory.here.rule)?;
         let typed = line.as_slice().to_vec(alloc)?;
         self.wish_typed(client, directory, typed.as_slice(), line)
     }
@@ -369,16 +377,26 @@ impl<'a> Screen<'a> {
         line: &mut TypedLine,
     ) -> Result<Wish, AllocError>
         ensures sent { SendsUntaken client.now line.new.items result }
-        ensures tried { OnOk result (TriesOrKeeps client.now self.old.page.settings self.old.memory.looking.trial
-            self.new.memory.looking.trial self.old.page.text.items self.new.page.text.items) }
-        ensures went { GoesOn client.now self.old.memory.looking.trial typed.now line.new.items result }
+        ensures tried { OnOk result (TriesOrKeeps client.now self.old.page.settings self.old.memory.here.looking.trial
+            self.new.memory.here.looking.trial self.old.page.text.items self.new.page.text.items) }
+        ensures went { GoesOn client.now self.old.memory.here.looking.trial typed.now line.new.items result }
+        ensures shown { before 32 typed.now ≡ codes "try" → OnOk result (Tries client.now self.old.page.settings
+            self.new.memory.here.looking.trial self.old.page.text.items self.new.page.text.items) }
     {
         let rest = after_word(typed);
         match own_word(split(typed, b' ').0) {
             None => wish_foreign(client, typed, line, &mut self.page),
             Some(Own::Send) => send(client, rest, line, &mut self.page),
-            Some(Own::Re) => self.memory.talk.answer(client, rest, line, &mut self.page),
-            Some(Own::Go) => self.memory.looking.send_tried(client, line, &mut self.page),
+            Some(Own::Re) => self
+                .memory
+                .program
+                .talk
+                .answer(client, rest, line, &mut self.page),
+            Some(Own::Go) => self
+                .memory
+                .here
+                .looking
+                .send_tried(client, line, &mut self.page),
             Some(Own::Try) => {
                 self.try_move(client, rest)?;
                 Ok(Wish::Answered)
@@ -398,7 +416,7 @@ impl<'a> Screen<'a> {
         here: Here,
         rest: &[u8],
     ) -> Result<(), AllocError>
-        ensures { self.new.memory.looking.trial ≡ self.old.memory.looking.trial }
+        ensures { self.new.memory.here.looking.trial ≡ self.old.memory.here.looking.trial }
     {
         let alloc = self.page.alloc;
         let rest = without_spaces(rest);
@@ -406,31 +424,35 @@ impl<'a> Screen<'a> {
         let small = small.as_slice();
         match here {
             Here::Help => self.say_help(small),
-            Here::Plays => self.memory.looking.say_plays(client, small, &mut self.page),
-            Here::Words => say_words(client, &self.memory.watching, &mut self.page),
+            Here::Plays => self
+                .memory
+                .here
+                .looking
+                .say_plays(client, small, &mut self.page),
+            Here::Words => say_words(client, &self.memory.here.watching, &mut self.page),
             Here::Players => {
-                let asker = self.memory.company.asker();
+                let asker = self.memory.program.account.asker();
                 append_players(alloc, directory, rest, &asker, &mut self.page.text)
             }
-            Here::Moves => say_moves(&self.memory.story, small, &mut self.page),
+            Here::Moves => say_moves(&self.memory.here.table.story, small, &mut self.page),
             Here::Columns => set_columns(small, &mut self.page),
-            Here::Talk => self.memory.talk.say_rows(&mut self.page),
-            Here::Gag => self.memory.people.gag(rest, &mut self.page),
-            Here::Ungag => self.memory.people.ungag(rest, &mut self.page),
-            Here::Quiet => self.memory.people.set_quiet(true, &mut self.page),
-            Here::Loud => self.memory.people.set_quiet(false, &mut self.page),
+            Here::Talk => self.memory.program.talk.say_rows(&mut self.page),
+            Here::Gag => self.memory.program.people.gag(rest, &mut self.page),
+            Here::Ungag => self.memory.program.people.ungag(rest, &mut self.page),
+            Here::Quiet => self.memory.program.people.set_quiet(true, &mut self.page),
+            Here::Loud => self.memory.program.people.set_quiet(false, &mut self.page),
         }
     }
 
     /// Shows the board to which a move would lead, and sends nothing. A move that the client would not take now is
     /// refused as if it were typed.
     fn try_move(&mut self, client: &Client, rest: &[u8]) -> Result<(), AllocError>
-        ensures { OnOk result (Tries client.now self.old.page.settings self.new.memory.looking.trial
+        ensures { OnOk result (Tries client.now self.old.page.settings self.new.memory.here.looking.trial
             self.old.page.text.items self.new.page.text.items) }
     {
         let alloc = self.page.alloc;
-        self.memory.looking.forget_trial();
-        let Some(decision) = read_move(alloc, client, rest, &mut self.memory.rule)? else {
+        self.memory.here.looking.forget_trial();
+        let Some(decision) = read_move(alloc, client, rest, &mut self.memory.here.rule)? else {
             return self.page.say(TRY_WHAT);
         };
         if let Some(why) = client.refusal(&decision) {
@@ -438,18 +460,18 @@ impl<'a> Screen<'a> {
         }
         match trial_of(client, &decision) {
             None => self.page.say(TRY_WHAT),
-            Some(trial) => self.memory.looking.show_trial(trial, &mut self.page),
+            Some(trial) => self.memory.here.looking.show_trial(trial, &mut self.page),
         }
     }
 
     /// Says what may be typed. What is advised now follows.
     fn say_help(&mut self, word: &[u8]) -> Result<(), AllocError>
-        ensures { self.new.memory.looking ≡ self.old.memory.looking }
+        ensures { self.new.memory.here.looking ≡ self.old.memory.here.looking }
     {
         if word.is_empty() {
-            self.memory.advising.inquired = true;
+            self.memory.here.advising.inquired = true;
             self.page.say_rows(help::screen())?;
-            return self.memory.watching.say_hint(&mut self.page);
+            return self.memory.here.watching.say_hint(&mut self.page);
         }
         match help::word_help(split(word, b' ').0) {
             Some(words) => self.page.say_rows(words),

@@ -22,8 +22,8 @@ impl<'a> Screen<'a> {
         match read_setting(line) {
             None => return Ok(false),
             Some(Setting::Nothing) => {}
-            Some(Setting::Gag(name)) => return self.memory.people.hide(alloc, name),
-            Some(Setting::Quiet) => self.memory.people.quiet = true,
+            Some(Setting::Gag(name)) => return self.memory.program.people.hide(alloc, name),
+            Some(Setting::Quiet) => self.memory.program.people.quiet = true,
             Some(Setting::Words) => self.page.settings.words = true,
             Some(Setting::NoColour) => self.page.settings.colour = false,
             Some(Setting::NoBell) => self.page.settings.bell = false,

@@ -10,8 +10,8 @@ mod watched;
 mod watching;
 mod worded;
 
-pub use boards::Boards;
+pub(crate) use boards::Boards;
 pub use picture::append_picture;
 pub(crate) use watched::{append_watched, append_watched_words};
-pub use watching::Watching;
+pub(crate) use watching::Watching;
 pub(crate) use worded::append_words;

@@ -2,6 +2,7 @@
 //! takes words as players type them, and keeps the game so far.
 #![tactic(auto)]
 
+mod account;
 mod commands;
 mod company;
 mod configuring;
@@ -13,6 +14,7 @@ mod people;
 mod resting;
 mod screen;
 pub mod story;
+mod table;
 mod talk;
 mod telling;
 mod terminal;

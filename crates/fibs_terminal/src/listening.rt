@@ -1,10 +1,10 @@
 //! What a terminal shows of what the server sends.
 
-use crate::drawing::Watching;
+use crate::company::is_told;
 use crate::people::ListAsked;
 use crate::screen::{Moment, Screen};
 use crate::talk::Talk;
-use fibs_advice::row::Row;
+use fibs_advice::standing::Standing;
 use fibs_advice::told::Told;
 use fibs_lines::Line;
 use fibs_messages::{Fault, Message, Reading};
@@ -112,29 +112,32 @@ impl<'a> Screen<'a> {
     /// Hears a line without a number. What it says of the match counts even if it is not shown.
     fn hear_text(&mut self, said: &[u8]) -> Result<(), AllocError> {
         let told = self.note_told(said)?;
-        if is_said_already(said, self.memory.boards.phase()) {
+        if is_said_already(said, self.memory.here.table.boards.phase()) {
             return Ok(());
         }
-        if told == Some(Told::Invited) && self.memory.converses && self.say_invited(said)? {
+        if told == Some(Told::Invited) && self.memory.program.converses && self.say_invited(said)? {
             return Ok(());
         }
-        self.memory.said.clear();
-        self.memory.said.extend_from_slice(kept_of(said))?;
+        let alloc = self.page.alloc;
+        self.memory.here.said = Vec::from_slice(alloc, kept_of(said))?;
         self.page.show_row(said)?;
         self.note_watching(said)
     }
 
     /// Takes note of what a text says of the match, and rings the bell if the opponent offers to resign.
     fn note_told(&mut self, said: &[u8]) -> Result<Option<Told>, AllocError> {
-        let told = self.memory.situation.hear_text(said);
+        let told = self.memory.here.situation.hear_text(said);
         self.note_match(said, told)?;
         match told {
             Some(Told::Begins | Told::Resumes) => {
-                self.memory.boards.begin();
-                self.memory.watching = Watching::new();
+                let alloc = self.page.alloc;
+                self.memory
+                    .here
+                    .begin_game(alloc, told == Some(Told::Resumes));
             }
-            Some(Told::NotPlaying | Told::NextGame) => self.hear_no_board(),
-            Some(Told::NotInvited) => self.memory.advising.says_again = true,
+            Some(Told::NotPlaying) => self.hear_no_board(false),
+            Some(Told::NextGame) => self.hear_no_board(true),
+            Some(Told::NotInvited) => self.memory.here.advising.says_again = true,
             Some(Told::Resigns) => self.page.ring()?,
             _ => {}
         }
@@ -145,55 +148,59 @@ impl<'a> Screen<'a> {
     fn note_match(&mut self, said: &[u8], told: Option<Told>) -> Result<(), AllocError> {
         let alloc = self.page.alloc;
         let memory = &mut self.memory;
-        match told {
-            Some(Told::Begins) => memory.story.begin(),
-            Some(Told::Saved | Told::MatchOver) => memory.title.hear_no_game()?,
-            _ => {}
+        if memory.here.situation.is_motd {
+            return Ok(());
         }
-        let opponent = memory.situation.opponent.as_slice();
-        let board = memory.boards.last();
-        memory.company.note_text(alloc, said, told, opponent, board)
+        let opponent = memory.here.situation.opponent.name.as_slice();
+        let board = memory.here.table.boards.last_with(opponent);
+        let account = &mut memory.program.account;
+        account.note_text(alloc, said, told, opponent, board)?;
+        account.hear_list(alloc, said, &mut memory.here.company.lists)?;
+        if let Some(Told::Saved | Told::MatchOver) = told {
+            memory.here.table.clear(alloc);
+        }
+        Ok(())
     }
 
     /// Says who invites the user. False if the text says something else.
     fn say_invited(&mut self, said: &[u8]) -> Result<bool, AllocError> {
-        if self.memory.company.is_said(said) {
+        let here = &mut self.memory.here;
+        if is_told(said, &here.situation.inviter) {
             return Ok(true);
         }
-        let standing = self.memory.situation.standing;
-        let is_said = self
-            .memory
-            .company
-            .say_invitation(said, standing, &mut self.page)?;
+        let standing = here.situation.standing;
+        let is_said = here.company.say_invitation(said, standing, &mut self.page)?;
+        here.situation.inviter.is_told = is_said.is_some() && standing == Standing::Invited;
         if is_said == Some(true) {
-            self.memory
-                .advising
-                .settle(Row::Invited, self.memory.situation.inviter.as_slice())?;
+            here.advising
+                .settle_invited(here.situation.inviter.name.as_slice())?;
         }
         Ok(is_said.is_some())
     }
 
-    /// The server has no board to show: if the user has asked for it, that is the answer.
-    pub(crate) fn hear_no_board(&mut self) {
-        if self.memory.situation.asks_board {
-            self.memory.situation.asks_board = false;
-            self.memory.advising.inquired = true;
+    /// The server shows no board of the user's game: if he has asked for it, that is the answer; it may follow all the
+    /// same.
+    pub(crate) fn hear_no_board(&mut self, may_follow: bool) {
+        if self.memory.here.situation.hear_no_board(may_follow) {
+            self.memory.here.advising.inquired = true;
         }
     }
 
     /// Takes note of a message: the user was greeted or is rated, the message of the day begins or ends, or a player
     /// comes or goes.
     fn note_message(&mut self, message: &Message<'_>) -> Result<(), AllocError> {
-        self.memory.company.note_message(message)?;
+        let here = &mut self.memory.here;
+        here.company.note_message(message)?;
         match message {
+            Message::OwnInfo(info) => self.memory.program.account.note_own_info(info)?,
             Message::Welcome { .. } => {
-                self.memory.situation.hear_welcome();
-                self.memory.list.asked = ListAsked::Everybody;
+                here.situation.hear_welcome();
+                here.list.asked = ListAsked::Everybody;
             }
-            Message::Login { name, .. } => self.memory.situation.hear_login(name.bytes()),
-            Message::MotdBegin => self.memory.situation.hear_motd(true),
-            Message::MotdEnd => self.memory.situation.hear_motd(false),
-            Message::Logout { name, .. } => self.memory.situation.hear_logout(name.bytes()),
+            Message::Login { name, .. } => here.situation.hear_login(name.bytes()),
+            Message::MotdBegin => here.situation.hear_motd(true),
+            Message::MotdEnd => here.situation.hear_motd(false),
+            Message::Logout { name, .. } => here.situation.hear_logout(name.bytes()),
             _ => {}
         }
         Ok(())
@@ -202,14 +209,15 @@ impl<'a> Screen<'a> {
     /// Hears a message.
     fn hear_message(&mut self, message: &Message<'_>, moment: Moment) -> Result<(), AllocError> {
         self.note_message(message)?;
-        if !self.memory.people.hides(message) {
+        if !self.memory.program.people.hides(message) {
             self.show_message(message, moment)?;
         }
         if let Message::Login { name, .. } = message {
-            let standing = self.memory.situation.standing;
+            let standing = self.memory.here.situation.standing;
             return self
                 .memory
-                .company
+                .program
+                .account
                 .say_here(name.bytes(), standing, &mut self.page);
         }
         Ok(())
@@ -218,12 +226,17 @@ impl<'a> Screen<'a> {
     /// Shows a message.
     fn show_message(&mut self, message: &Message<'_>, moment: Moment) -> Result<(), AllocError> {
         match message {
-            Message::WhoInfo(info) => self.memory.list.hear_player(info),
+            Message::WhoInfo(info) => self.memory.here.list.hear_player(info),
             Message::WhoInfoEnd => {
-                let is_quiet = self.memory.people.is_quiet();
-                self.memory.list.hear_end(is_quiet, &mut self.page)
+                let is_quiet = self.memory.program.people.is_quiet();
+                self.memory.here.list.hear_end(is_quiet, &mut self.page)
             }
-            _ => say_message(message, moment, &mut self.memory.talk, &mut self.page),
+            _ => say_message(
+                message,
+                moment,
+                &mut self.memory.program.talk,
+                &mut self.page,
+            ),
         }
     }
 }

@@ -6,6 +6,7 @@ ghost use Rattle.fibs_session.specs.Calls.Standing.{StandsAfter};
 ghost use Rattle.fibs_advice.specs.Trials.{tried, tried_on};
 ghost use Rattle.fibs_advice.specs.declared.trial.Trial.{Trial as AnyTrial};
 ghost use Rattle.fibs_terminal.specs.Asking.{SendsUntaken};
+ghost use Rattle.fibs_terminal.specs.Boxes.{kept_looking};
 ghost use Rattle.fibs_terminal.specs.Trying.{IsTriedNow, SendsTried, ShowsTrial, go_row, tried_command};
 
 use crate::commands::{say_no_game, set_line};
@@ -66,10 +67,22 @@ pub struct Looking {
 
 impl Looking {
     /// Nothing was looked at.
-    pub fn new() -> Looking {
+    pub fn new() -> Looking
+        ensures { result.trial ≡ None }
+    {
         Looking {
             plays: Listing::of_all(),
             trial: None,
+        }
+    }
+
+    /// What is left of it when its board goes: the move that was tried.
+    pub fn kept(self) -> Looking
+        ensures { result ≡ kept_looking self }
+    {
+        Looking {
+            plays: Listing::of_all(),
+            trial: self.trial,
         }
     }
 

@@ -1,4 +1,5 @@
 //! Whose words are hidden, and who was listed.
+ghost use Rattle.fibs_terminal.specs.Boxes.{IsEmptyList};
 
 use fibs_fields::name::Name;
 use fibs_fields::split::split;
@@ -139,18 +140,14 @@ pub struct List {
 
 impl List {
     /// Nobody was listed.
-    pub fn new(alloc: Global) -> List {
+    pub fn new(alloc: Global) -> List
+        ensures { IsEmptyList result }
+    {
         List {
             asked: ListAsked::Nothing,
             count: 0,
             last: Vec::new(alloc),
         }
-    }
-
-    /// Nobody was listed on this connection.
-    pub fn forget(&mut self) {
-        self.asked = ListAsked::Nothing;
-        self.count = 0;
     }
 
     /// The user has sent a line as it is.

@@ -1,16 +1,16 @@
 //! What a terminal says before it lets the user type.
 ghost use Rattle.std.specs.Prelude.{◌≡◌, true, false, OnOk};
 ghost use Rattle.fibs_advice.specs.Rows.{is_asked_for};
+ghost use Rattle.fibs_terminal.specs.Boxes.{IsQuiet};
 ghost use Rattle.fibs_terminal.specs.Resting.{SaysAdvice, SaysRow};
 
 use crate::screen::{Moment, Screen};
 use fibs_advice::advised::{Advice, Aside, advised};
 use fibs_advice::row::Row;
-use fibs_advice::saying::append_advice;
+use fibs_advice::saying::{append_advice, append_join};
 use fibs_advice::situation::Situation;
 use fibs_session::{Client, Directory};
 use fibs_wording::environment::Page;
-use fibs_wording::environment::pieces::short_name;
 use std::alloc::{AllocError, Global};
 use std::time::Duration;
 
@@ -32,7 +32,9 @@ pub struct Advising {
 
 impl Advising {
     /// Nothing was advised.
-    pub fn new(alloc: Global) -> Advising {
+    pub fn new(alloc: Global) -> Advising
+        ensures { IsQuiet result }
+    {
         Advising {
             says_again: false,
             inquired: false,
@@ -40,19 +42,13 @@ impl Advising {
         }
     }
 
-    /// A row that ends with a name was said in other words: it is not said again.
-    pub fn settle(&mut self, row: Row, name: &[u8]) -> Result<(), AllocError> {
+    /// How an invitation is accepted was said in other words: it is not said again.
+    pub fn settle_invited(&mut self, inviter: &[u8]) -> Result<(), AllocError> {
         self.said_last.clear();
-        self.said_last.extend_from_slice(row.words_before())?;
-        self.said_last.extend_from_slice(short_name(name))?;
+        self.said_last
+            .extend_from_slice(Row::Invited.words_before())?;
+        append_join(inviter, &mut self.said_last)?;
         self.said_last.extend_from_slice(b"\n")
-    }
-
-    /// What was advised before counts no more.
-    pub fn forget(&mut self) {
-        self.says_again = false;
-        self.inquired = false;
-        self.said_last.clear();
     }
 
     /// Says what is advised, unless it was said last and is not owed; what is said only if the user asks, only then.
@@ -67,8 +63,8 @@ impl Advising {
     {
         let alloc = page.alloc;
         let mut row = Vec::new(alloc);
-        let opponent = short_name(situation.opponent.as_slice());
-        let inviter = short_name(situation.inviter.as_slice());
+        let opponent = situation.opponent.name.as_slice();
+        let inviter = situation.inviter.name.as_slice();
         append_advice(advice, opponent, inviter, &mut row)?;
         if self.says(advice, row.as_slice()) {
             page.text.extend_from_slice(row.as_slice())?;
@@ -92,9 +88,9 @@ impl Advising {
 /// nothing is known if no player is listed, and whether the server had time to answer the login.
 fn aside_of(situation: &Situation, directory: &Directory, passed: Duration) -> Aside {
     Aside {
-        is_listed: situation.is_opponent_here
+        is_listed: situation.opponent.is_here
             || directory.is_empty()
-            || directory.get(situation.opponent.as_slice()).is_some(),
+            || directory.get(situation.opponent.name.as_slice()).is_some(),
         had_time: passed.as_secs() >= LOGIN_SECONDS,
     }
 }
@@ -110,12 +106,11 @@ impl<'a> Screen<'a> {
         ensures { OnOk result
             (SaysAdvice client.now self.old.memory self.old.page.text.items self.new.page.text.items) }
     {
-        let passed = moment.passed.saturating_sub(self.memory.opened);
-        let aside = aside_of(&self.memory.situation, directory, passed);
+        let here = &mut self.memory.here;
+        let passed = moment.passed.saturating_sub(here.opened);
+        let aside = aside_of(&here.situation, directory, passed);
         let alloc = self.page.alloc;
-        let advice = advised(alloc, client, &self.memory.situation, aside)?;
-        self.memory
-            .advising
-            .say(&advice, &self.memory.situation, &mut self.page)
+        let advice = advised(alloc, client, &here.situation, aside)?;
+        here.advising.say(&advice, &here.situation, &mut self.page)
     }
 }

@@ -1,12 +1,12 @@
 //! The talk of people that a terminal remembers.
-ghost use Rattle.fibs_terminal.specs.Asking.{SendsUntaken};
+ghost use Rattle.std.specs.Prelude.{◌≡◌, IfOk};
+ghost use Rattle.fibs_terminal.specs.Asking.{SendsUntaken, tell_line};
 
 use crate::commands::set_line;
 use fibs_connect::typed_line::{TYPED_LIMIT, TypedLine};
 use fibs_connect::wish::Wish;
 use fibs_session::Client;
 use fibs_wording::environment::Page;
-use fibs_wording::environment::pieces::append_all;
 use std::alloc::{AllocError, Global};
 
 /// How many rows are kept.
@@ -49,7 +49,9 @@ impl Talk {
         line: &mut TypedLine,
         page: &mut Page<'_>,
     ) -> Result<Wish, AllocError>
-        ensures { SendsUntaken client.now line.new.items result }
+        ensures sent { SendsUntaken client.now line.new.items result }
+        ensures told { IfOk result (λ wish. wish ≡ Wish.Say
+            → line.new.items ≡ tell_line self.now.speaker.items text.now) }
     {
         if self.speaker.is_empty() || text.is_empty() {
             page.say(b"re TEXT: answers the player who spoke to you last, if one has.\n")?;
@@ -57,7 +59,10 @@ impl Talk {
         }
         let alloc = page.alloc;
         let mut told = Vec::new(alloc);
-        append_all(&[b"tell ", self.speaker.as_slice(), b" ", text], &mut told)?;
+        told.extend_from_slice(b"tell ")?;
+        told.extend_from_slice(self.speaker.as_slice())?;
+        told.extend_from_slice(b" ")?;
+        told.extend_from_slice(text)?;
         if told.len() > TYPED_LIMIT {
             return Ok(Wish::TooLong);
         }

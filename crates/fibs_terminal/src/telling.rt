@@ -15,6 +15,7 @@ use fibs_wording::reasons::{append_not_sent, append_reason, append_unnoted, refu
 use itoa::Buffer;
 use std::alloc::AllocError;
 use std::io::ErrorKind;
+use std::time::Duration;
 
 // What is said of an order, of its end, and of a line that is unknown.
 
@@ -65,7 +66,7 @@ impl<'a> Screen<'a> {
             Said::Heard(_, _, Some(_)) => {}
             Said::Heard(line, reading, None) => self.hear_line(line, reading, moment)?,
             Said::Game(game) => self.hear_game(game)?,
-            Said::Confirmed(_) => self.memory.situation.hear_confirmed(),
+            Said::Confirmed(_) => self.memory.here.situation.hear_confirmed(),
             Said::Lost(waited) => self.hear_lost(waited)?,
             Said::Unnoted(why) => {
                 append_unnoted(*why, &mut self.page.text)?;
@@ -77,43 +78,48 @@ impl<'a> Screen<'a> {
             Said::Refused(why) => self.say_refused(*why)?,
             Said::NotSent(why) => self.say_not_sent(*why)?,
             Said::Rolled => {
-                let _decides = self.memory.situation.hear_sent(b"roll");
+                let _decides = self.memory.here.situation.hear_sent(b"roll");
                 self.page.say(b"sent roll, as ordered\n")?;
             }
             Said::Ordered => self.page.say(ORDERED)?,
             Said::Withdrawn => self.page.say(WITHDRAWN)?,
             Said::Unknown => self.page.say(UNKNOWN)?,
         }
-        self.memory.title.put(&mut self.page)
+        let game = self.memory.here.table.title.as_slice();
+        self.memory.program.title.put(game, &mut self.page)
     }
 
     /// Hears a board of the user's game.
     fn hear_game(&mut self, game: &GameBoard) -> Result<(), AllocError> {
-        let memory = &mut self.memory;
-        memory.advising.says_again = true;
-        if memory.situation.asks_board {
-            memory.advising.inquired = true;
+        let alloc = self.page.alloc;
+        let converses = self.memory.program.converses;
+        let here = &mut self.memory.here;
+        here.advising.says_again = true;
+        if here.situation.asks_board() {
+            here.advising.inquired = true;
         }
-        memory.situation.hear_board(game);
+        let asked = here.situation.awaits_board();
+        here.situation.hear_board(game);
         // its moves are listed from the first on
-        memory.looking.plays = Listing::of_all();
-        memory.watching = Watching::new();
-        memory.story.hear_board(game)?;
-        if memory.converses {
-            memory.title.hear_board(game)?;
+        here.looking.plays = Listing::of_all();
+        here.watching = Watching::new();
+        here.table.meet(alloc, game.board().opponent().bytes());
+        here.table.story.hear_board(alloc, game)?;
+        if converses {
+            here.table.hear_title(game)?;
         }
-        let said = memory.said.as_slice();
-        memory
+        let said = here.said.as_slice();
+        here.table
             .boards
-            .show(game, memory.converses, said, &mut self.page)?;
-        memory.said.clear();
+            .show(game, asked, converses, said, &mut self.page)?;
+        here.said = Vec::new(alloc);
         Ok(())
     }
 
     /// Says why a plain command was not sent.
     fn say_not_sent(&mut self, why: PlainRefusal) -> Result<(), AllocError> {
         if why == PlainRefusal::NotOn {
-            self.memory.advising.inquired = true;
+            self.memory.here.advising.inquired = true;
         }
         let start = self.page.text.len();
         append_not_sent(why, &mut self.page.text)?;
@@ -122,46 +128,43 @@ impl<'a> Screen<'a> {
 
     /// A connection was made.
     fn hear_opened(&mut self, moment: Moment) -> Result<(), AllocError> {
-        self.memory.forget_boards();
-        self.memory.company.forget();
-        self.memory.situation.hear_opened();
-        self.memory.converses = true;
-        self.memory.opened = moment.passed;
+        let alloc = self.page.alloc;
+        self.memory.change_connection(alloc, moment.passed);
+        self.memory.program.converses = true;
         say_place(b"connected to ", b"\n", &mut self.page)
     }
 
     /// A command was sent: it is shown in full.
     fn hear_sent(&mut self, command: &CommandText) -> Result<(), AllocError> {
         let bytes = command.as_bytes();
-        if self.memory.situation.hear_sent(bytes) {
-            self.memory.advising.says_again = true;
-            self.memory.boards.asked = false;
+        let here = &mut self.memory.here;
+        if here.situation.hear_sent(bytes) {
+            here.advising.says_again = true;
         }
-        if bytes == b"board".as_slice() {
-            self.memory.boards.asked = true;
-        } else if bytes == b"who".as_slice() {
-            self.memory.list.asked = ListAsked::Everybody;
+        if bytes == b"who".as_slice() {
+            here.list.asked = ListAsked::Everybody;
         }
         self.page.say_all(&[b"sent ", bytes, b"\n"])
     }
 
     /// Says that a line was sent as it is.
     fn say_passed(&mut self, line: &[u8]) -> Result<(), AllocError> {
-        self.memory.situation.hear_passed(line);
-        self.memory.watching.hear_passed(line);
-        self.memory.list.hear_passed(line);
-        self.memory.advising.says_again = true;
+        let here = &mut self.memory.here;
+        here.situation.hear_passed(line);
+        here.watching.hear_passed(line);
+        here.list.hear_passed(line);
+        here.advising.says_again = true;
         self.page.say(b"sent as it is: ")?;
         self.page.show_row(line)
     }
 
     /// Says why a decision was refused: of a move against the rules which rule it is. What is advised follows.
     pub(crate) fn say_refused(&mut self, why: Refusal) -> Result<(), AllocError>
-        ensures { self.new.memory.looking ≡ self.old.memory.looking }
+        ensures { self.new.memory.here.looking ≡ self.old.memory.here.looking }
     {
-        self.memory.advising.inquired = true;
-        let is_told = self.memory.situation.standing.is_told_by_text();
-        let words = words_of(why, self.memory.rule.as_slice(), is_told);
+        self.memory.here.advising.inquired = true;
+        let is_told = self.memory.here.situation.standing.is_told_by_text();
+        let words = words_of(why, self.memory.here.rule.as_slice(), is_told);
         let start = self.page.text.len();
         append_reason(words, why.number(), why, &mut self.page.text)?;
         self.page.end_row(start)
@@ -169,8 +172,8 @@ impl<'a> Screen<'a> {
 
     /// The connection is over.
     fn hear_lost(&mut self, waited: &Option<Outstanding>) -> Result<(), AllocError> {
-        self.memory.forget_boards();
-        self.memory.title.hear_no_game()?;
+        let alloc = self.page.alloc;
+        self.memory.change_connection(alloc, Duration::from_secs(0));
         self.page.ring()?;
         if let Some(asked) = waited {
             self.page.say_all(&[

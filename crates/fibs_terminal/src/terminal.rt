@@ -6,7 +6,7 @@ ghost use Rattle.fibs_connect.specs.Wishes.{wish_value};
 ghost use Rattle.fibs_terminal.specs.Asking.{AsksInBounds, KnownGoesOn, SendsUntaken};
 ghost use Rattle.fibs_terminal.specs.Grown.{Grown};
 ghost use Rattle.fibs_terminal.specs.Resting.{ShowsAdvice};
-ghost use Rattle.fibs_terminal.specs.Trying.{GoesOn, ShowsTried};
+ghost use Rattle.fibs_terminal.specs.Trying.{GoesOn, ShowsTried, WritesTry};
 
 use crate::screen::{Moment, Screen};
 use fibs_connect::fault::FrontFault;
@@ -46,7 +46,7 @@ impl<'a, W: Write + Drop, C: Clock + Drop> Terminal<'a, W, C> {
     ///
     /// Errors: `Output` if a write fails.
     pub fn leave(&mut self) -> Result<(), FrontFault> {
-        write_text(self.screen.memory.title.put_back(), &mut self.out)?;
+        write_text(self.screen.memory.program.title.put_back(), &mut self.out)?;
         self.out.flush().map_err(|_| FrontFault::Output)
     }
 
@@ -135,10 +135,14 @@ impl<W: Write + Drop, C: Clock + Drop> Words for Terminal<'_, W, C> {
         ensures sent { SendsUntaken client.now line.new.items result }
         // A move that is tried from now on is one that the client would take, and its board is shown.
         ensures tried { OnOk result (ShowsTried client.now self.old.screen.page.settings
-            self.old.screen.memory.looking.trial self.new.screen.memory.looking.trial
+            self.old.screen.memory.here.looking.trial self.new.screen.memory.here.looking.trial
             (W.contents self.old.out) (W.contents self.new.out)) }
         // After `go` the client answers the command of the move that was tried, if that was on the board that is shown.
-        ensures went { GoesOn client.now self.old.screen.memory.looking.trial line.old.items line.new.items result }
+        ensures went { GoesOn client.now self.old.screen.memory.here.looking.trial line.old.items line.new.items
+            result }
+        // After `try` no move is kept but the one that was shown.
+        ensures shown { WritesTry client.now self.old.screen.page.settings line.old.items
+            self.new.screen.memory.here.looking.trial (W.contents self.old.out) (W.contents self.new.out) result }
     {
         self.screen.page.text.clear();
         match self.screen.wish(client, directory, line) {

@@ -17,13 +17,13 @@ impl<'a> Screen<'a> {
         let Some(watched) = WatchedBoard::of(board) else {
             return self.page.show_row(line);
         };
-        let memory = &mut self.memory;
-        let asked = memory.boards.asked;
-        let said = memory.said.as_slice();
-        memory.watching.show(&watched, asked, said, &mut self.page)?;
-        memory.boards.asked = false;
-        memory.said.clear();
-        self.hear_no_board();
+        let alloc = self.page.alloc;
+        let here = &mut self.memory.here;
+        let asked = here.situation.awaits_board();
+        let said = here.said.as_slice();
+        here.watching.show(&watched, asked, said, &mut self.page)?;
+        here.said = Vec::new(alloc);
+        self.hear_no_board(false);
         Ok(())
     }
 
@@ -31,12 +31,12 @@ impl<'a> Screen<'a> {
     pub(crate) fn note_watching(&mut self, said: &[u8]) -> Result<(), AllocError> {
         match read_seen(said) {
             Some(Seen::Begins) => {
-                self.memory.watching = Watching::new();
+                self.memory.here.watching = Watching::new();
                 return self.page.say(NO_BOARD_YET);
             }
-            Some(Seen::Ends) => self.memory.watching = Watching::new(),
-            Some(Seen::Over(name)) if self.memory.watching.is_of(name) => {
-                self.memory.watching = Watching::new();
+            Some(Seen::Ends) => self.memory.here.watching = Watching::new(),
+            Some(Seen::Over(name)) if self.memory.here.watching.is_of(name) => {
+                self.memory.here.watching = Watching::new();
             }
             _ => {}
         }

@@ -20,7 +20,7 @@ pub fn refusal_words(why: Refusal) -> &'static [u8] {
         Refusal::NotYours => b"There is nothing for you to decide on this board.",
         Refusal::WrongKind => b"That can't be done on this board: help says what can.",
         Refusal::IllegalPlay => b"The rules don't allow this move.",
-        Refusal::NotOn => b"It is off already, or will be at your next login.",
+        Refusal::NotOn => b"It is off, or will be at your next login; or no settings came yet.",
         Refusal::AlreadyOrdered => b"You have given the order to roll already.",
         Refusal::NotOrdered => b"There is no order to roll.",
     }

@@ -45,8 +45,6 @@ pub struct SavedMatch {
 #[derive(Drop)]
 pub struct SavedMatches {
     matches: Vec<SavedMatch>,
-    /// Whether the rows of the answer to `show saved` are coming.
-    lists: bool,
 }
 
 /// A row of the answer to `show saved`.
@@ -141,7 +139,6 @@ impl SavedMatches {
     pub fn new(alloc: Global) -> SavedMatches {
         SavedMatches {
             matches: Vec::new(alloc),
-            lists: false,
         }
     }
 
@@ -187,25 +184,31 @@ impl SavedMatches {
         Ok(())
     }
 
-    /// Hears a text of the server: the answer to `show saved` replaces what was known.
+    /// Hears a text of the server: the answer to `show saved` replaces what was known. Whether its rows are coming is
+    /// kept in `lists`.
     ///
     /// Errors: if memory runs out; then its match is not kept.
-    pub fn hear_text(&mut self, alloc: Global, text: &[u8]) -> Result<(), AllocError> {
+    pub fn hear_text(
+        &mut self,
+        alloc: Global,
+        text: &[u8],
+        lists: &mut bool,
+    ) -> Result<(), AllocError> {
         let trimmed = after_spaces(text);
         if is_head(trimmed) {
             self.matches.clear();
-            self.lists = true;
+            *lists = true;
             return Ok(());
         }
         if trimmed == NONE {
             self.matches.clear();
         }
-        if !self.lists {
+        if !*lists {
             return Ok(());
         }
         match read_row(trimmed) {
             None => {
-                self.lists = false;
+                *lists = false;
                 Ok(())
             }
             Some(row) => self.keep(alloc, row.name.bytes(), row.own, row.other, row.length),

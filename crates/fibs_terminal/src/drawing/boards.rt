@@ -1,6 +1,11 @@
 //! The boards of a terminal, and what it shows of one that comes.
+ghost use Rattle.std.specs.Prelude.{◌≡◌, IfSome};
+ghost use Rattle.fibs_fields.specs.StoredBoard.{fields_of};
+ghost use Rattle.fibs_terminal.specs.Tables.{no_boards, none_drawn};
+
 use crate::drawing::outcomes::append_outcome;
 use crate::drawing::picture::{NO_ARRIVALS, append_marked, arrivals_since};
+use fibs_advice::situation::is_same;
 use fibs_fields::boards::Board;
 use fibs_fields::boards::fields::{
     FIRST_DIE, FIRST_PLACE, LAST_PLACE, OTHER_FIRST_DIE, OTHER_OFF, OTHER_SECOND_DIE, OWN_OFF,
@@ -12,15 +17,32 @@ use fibs_wording::environment::pieces::{append_all, short_name};
 use itoa::Buffer;
 use std::alloc::AllocError;
 
+/// The boards of a game that were drawn.
+#[derive(Clone, Copy)]
+struct Drawn {
+    /// The last of them.
+    last: Option<GameBoard>,
+    /// The one before it, or before that one if no checker has moved.
+    before: Option<GameBoard>,
+}
+
+impl Drawn {
+    /// None was drawn.
+    fn new() -> Drawn
+        ensures { result ≡ none_drawn }
+    {
+        Drawn {
+            last: None,
+            before: None,
+        }
+    }
+}
+
 /// The boards that have come.
 #[derive(Drop)]
 pub struct Boards {
-    /// Whether the next board is to be drawn whole, since the user has asked for it.
-    pub asked: bool,
-    /// The board that was drawn last.
-    drawn: Option<GameBoard>,
-    /// The board that was drawn before it, or before that one if no checker has moved.
-    drawn_before: Option<GameBoard>,
+    /// The boards of this game that were drawn.
+    drawn: Drawn,
     /// The board that came last.
     heard: Option<GameBoard>,
 }
@@ -47,26 +69,31 @@ fn is_deciding(phase: Phase) -> bool {
 
 impl Boards {
     /// None has come.
-    pub fn new() -> Boards {
+    pub fn new() -> Boards
+        ensures { result ≡ no_boards }
+    {
         Boards {
-            asked: false,
-            drawn: None,
-            drawn_before: None,
+            drawn: Drawn::new(),
             heard: None,
         }
     }
 
-    /// A match or a game begins, or is resumed: its first board is drawn.
-    pub fn begin(&mut self) {
-        self.drawn = None;
-        self.drawn_before = None;
+    /// A game begins, or is resumed: its first board is drawn.
+    pub fn begin_game(&mut self)
+        ensures { self.new ≡ record self.old { drawn = none_drawn } }
+    {
+        self.drawn = Drawn::new();
     }
 
-    /// The board that came last.
-    pub fn last(&self) -> Option<&Board> {
-        match &self.heard {
-            None => None,
-            Some(heard) => Some(heard.board()),
+    /// The board that came last, if it is of a match with this opponent.
+    pub fn last_with(&self, opponent: &[u8]) -> Option<&Board>
+        ensures { IfSome result (λ board. (fields_of board.now).opponent ≡ opponent.now) }
+    {
+        let board = self.heard.as_ref()?.board();
+        if is_same(board.opponent().bytes(), opponent) {
+            Some(board)
+        } else {
+            None
         }
     }
 
@@ -78,10 +105,12 @@ impl Boards {
         }
     }
 
-    /// Shows a board of the user's game. A text of the server that says the same is not said again.
+    /// Shows a board of the user's game, for which he may have asked. A text of the server that says the same is not
+    /// said again.
     pub fn show(
         &mut self,
         game: &GameBoard,
+        asked: bool,
         is_above: bool,
         said: &[u8],
         page: &mut Page<'_>,
@@ -97,7 +126,7 @@ impl Boards {
         if was_his && is_deciding(phase) {
             page.ring()?;
         }
-        if self.is_drawn_whole(game.board(), phase) {
+        if asked || self.is_drawn_whole(game.board(), phase) {
             self.draw(game, is_above, page)?;
         } else if !again {
             say_board(game.board(), phase, said, page)?;
@@ -109,14 +138,14 @@ impl Boards {
         Ok(())
     }
 
-    /// Whether a board is drawn whole: the user has asked for it, or a checker has moved and there is something to
-    /// decide, or the game is over.
+    /// Whether a board is drawn whole though the user has not asked for it: a checker has moved and there is something
+    /// to decide, or the game is over.
     fn is_drawn_whole(&self, board: &Board, phase: Phase) -> bool {
-        let Some(drawn) = &self.drawn else {
+        let Some(drawn) = &self.drawn.last else {
             return true;
         };
         let calls = is_deciding(phase) || phase == Phase::Over;
-        self.asked || (calls && is_moved(drawn.board(), board))
+        calls && is_moved(drawn.board(), board)
     }
 
     /// Draws a board, and where the opponent has moved to since the board that was drawn before it.
@@ -126,14 +155,13 @@ impl Boards {
         is_above: bool,
         page: &mut Page<'_>,
     ) -> Result<(), AllocError> {
-        self.asked = false;
-        if let Some(drawn) = &self.drawn {
+        if let Some(drawn) = &self.drawn.last {
             if is_moved(drawn.board(), game.board()) {
-                self.drawn_before = Some(*drawn);
+                self.drawn.before = Some(*drawn);
             }
         }
-        self.drawn = Some(*game);
-        let arrivals = match &self.drawn_before {
+        self.drawn.last = Some(*game);
+        let arrivals = match &self.drawn.before {
             Some(before) => arrivals_since(before, game),
             None => NO_ARRIVALS,
         };

@@ -1,4 +1,6 @@
 //! What a terminal shows of a game that the user watches.
+ghost use Rattle.std.specs.Prelude.{◌≡◌};
+ghost use Rattle.fibs_terminal.specs.Boxes.{nothing_watched};
 
 use crate::drawing::boards::{append_dice, is_moved};
 use crate::drawing::watched::append_watched;
@@ -36,7 +38,9 @@ fn is_same_pair(a: &Board, b: &Board) -> bool {
 
 impl Watching {
     /// Nothing is watched.
-    pub fn new() -> Watching {
+    pub fn new() -> Watching
+        ensures { result ≡ nothing_watched }
+    {
         Watching {
             heard: None,
             drawn: None,

@@ -1,4 +1,5 @@
 //! The turns of a game, as far as boards show them.
+ghost use Rattle.fibs_terminal.specs.Tables.{IsNewStory};
 
 use crate::story::finding::played;
 use crate::story::mirror::mirrored;
@@ -94,7 +95,9 @@ fn turn_of(before: &GameBoard, after: &GameBoard) -> Option<PlayedTurn> {
 
 impl Story {
     /// No board has come.
-    pub fn new(alloc: Global) -> Story {
+    pub fn new(alloc: Global) -> Story
+        ensures { IsNewStory result }
+    {
         Story {
             turns: Vec::new(alloc),
             forgotten: 0,
@@ -102,25 +105,18 @@ impl Story {
         }
     }
 
-    /// A game begins: none of its boards has come.
-    pub fn begin(&mut self) {
-        self.turns.clear();
-        self.forgotten = 0;
-        self.last = None;
-    }
-
     /// A board of the user's game has come.
     ///
     /// Errors: if memory runs out; then the turn before it is not kept.
-    pub fn hear_board(&mut self, game: &GameBoard) -> Result<(), AllocError> {
+    pub fn hear_board(&mut self, alloc: Global, game: &GameBoard) -> Result<(), AllocError> {
         let last = self.last;
         self.last = Some(*game);
         let Some(last) = last else {
             return Ok(());
         };
         if begins_anew(&last, game) {
-            self.turns.clear();
-            self.forgotten = 0;
+            *self = Story::new(alloc);
+            self.last = Some(*game);
             return Ok(());
         }
         if !differs(last.board(), game.board()) {

@@ -1,11 +1,19 @@
 //! What was printed is shown before the program waits: for the server, for a typed line, for a connection.
 
 use crate::fibs_cli::objects::front::Objects;
+use crate::fibs_connect::fault::FrontFault;
+use crate::fibs_connect::front::Front;
+use crate::fibs_connect::said::Said;
+use crate::fibs_connect::typed_line::TypedLine;
+use crate::fibs_connect::typed_lines::TypedLines;
 use crate::fibs_connect::watch::Unwatched;
-use crate::fibs_connect::{converse_on, converse_with};
+use crate::fibs_connect::wish::Wish;
+use crate::fibs_connect::words::Words;
+use crate::fibs_connect::{answer_lines, converse_on, converse_with};
 use crate::fibs_engine::dial::Dial;
 use crate::fibs_engine::fault::EngineFault;
 use crate::fibs_engine::link::Link;
+use crate::fibs_session::{Client, Directory, Login};
 use crate::fibs_test_tools::pipe::{After, Pipe};
 use crate::rattle::cell::Cell;
 use crate::rattle::io;
@@ -146,6 +154,60 @@ fn nothing_is_hidden_while_the_program_waits() {
         assert!(is_shown, "{account:?}: something is hidden, or the end is a fault");
         assert!(seen.waits.get() > 15, "{account:?}: it waits more often");
     }
+}
+
+/// What was written before the conversation is shown before it connects.
+#[test]
+fn nothing_is_hidden_while_a_connection_is_made() {
+    let seen = Seen::new();
+    seen.hidden.set(7);
+    let mut screen = Screen { seen: &seen, flushes: 1000, failed: false };
+    let mut front = Objects::new(&mut screen);
+    let login = Login::new(b"ann", b"secret").expect("it is a login");
+    let mut typed = Watched { stream: Pipe::new(b"quit\n", 5, After::End, 0), seen: &seen };
+    let mut lines = TypedLines::new(1000);
+    let mut door = WatchedDoor { seen: &seen };
+    let ending = answer_lines(&mut door, login, &mut lines, &mut typed, &mut Unwatched, &mut front);
+    assert!(ending == Ok(0) && seen.is_shown(), "something is hidden, or the end is a fault");
+}
+
+/// A front end that counts how often it says what may be typed.
+struct Rests {
+    count: u32,
+}
+
+impl Front for Rests {
+    fn tell(&mut self, _said: &Said<'_>) -> Result<(), FrontFault> {
+        Ok(())
+    }
+
+    fn flush(&mut self) -> Result<(), FrontFault> {
+        Ok(())
+    }
+}
+
+impl Words for Rests {
+    fn rest(&mut self, _client: &Client, _directory: &Directory) -> Result<(), FrontFault> {
+        self.count += 1;
+        Ok(())
+    }
+
+    fn wish(&mut self, _client: &Client, _directory: &Directory, _line: &mut TypedLine) -> Result<Wish, FrontFault> {
+        Ok(Wish::Quit)
+    }
+}
+
+/// A player who leaves sees what was said last: once before he types, and once after.
+#[test]
+fn what_was_said_last_is_shown_to_who_leaves() {
+    let seen = Seen::new();
+    let mut front = Rests { count: 0 };
+    let login = Login::new(b"ann", b"secret").expect("it is a login");
+    let mut typed = Pipe::new(b"quit\n", 5, After::End, 0);
+    let mut lines = TypedLines::new(1000);
+    let mut door = WatchedDoor { seen: &seen };
+    let ending = answer_lines(&mut door, login, &mut lines, &mut typed, &mut Unwatched, &mut front);
+    assert_eq!((ending, front.count), (Ok(0), 2));
 }
 
 /// Whether the conversation ends by a fault, which is the device's, if one flush fails after so many.

@@ -13,6 +13,7 @@ mod flushing;
 mod nobody;
 mod objects;
 mod once;
+mod ordering;
 mod outcomes;
 mod play_loop;
 mod plays;

@@ -3,7 +3,10 @@
 
 mod advice;
 mod any_order;
+mod boxes;
+mod columns;
 mod conversations;
+mod endings;
 mod flushing;
 mod lines;
 mod messages;
@@ -15,9 +18,12 @@ mod remembering;
 mod rows;
 mod rules;
 mod seats;
+mod settings;
 mod spellings;
+mod states;
 mod story;
 mod texts;
+mod titles;
 mod typed_lines;
 mod watched;
 mod words;

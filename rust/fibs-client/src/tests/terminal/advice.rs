@@ -153,6 +153,46 @@ static OFFERS: [Scene; 13] = [
     ),
 ];
 
+/// A board on which the user has the turn and may not double; and one of a match that was won by more than its length.
+const MAY_NOT_DOUBLE: &[u8] =
+    b"board:You:bob:3:0:1:0:-2:0:0:0:0:5:0:3:0:0:0:-5:5:0:0:0:-3:0:-5:0:0:0:0:2:0:1:0:0:0:0:1:0:1:0:1:-1:0:25:0:0:0:0:2:0:0:0\r\n";
+
+const WON_BY_MORE: &[u8] =
+    b"board:You:bob:3:4:1:0:-2:0:0:0:0:5:0:3:0:0:0:-5:5:0:0:0:-3:0:-5:0:0:0:0:2:0:0:0:0:0:0:1:1:1:0:1:-1:0:25:0:0:0:0:2:0:0:0\r\n";
+
+/// Which row comes before which: an offer before that the server plays; that a double was refused, only if one may be
+/// made; how the game goes on, if the board of a match that was resumed is the one on which the decision was made; and
+/// nothing once the match is over.
+static ORDER: [Scene; 4] = [
+    (
+        &[Cue::Hears(AUTOMOVE), Cue::Hears(b"bob wants to resign. You will win 1 point.\r\n"), Cue::Rests],
+        "You will win 1 point.\nbob offers to resign: send accept, or send reject.\n",
+    ),
+    (
+        &[Cue::Hears(b"** You can't double.\r\n"), Cue::Rests, Cue::Hears(MAY_NOT_DOUBLE), Cue::Rests],
+        "\nYour turn: roll.\n",
+    ),
+    (
+        &[
+            Cue::Types(b"roll"),
+            Cue::Hears(b"bob has joined you. Your running match was loaded.\r\n"),
+            Cue::Hears(TO_ROLL),
+            Cue::Types(b"help"),
+            Cue::Rests,
+        ],
+        "about a word.\nIf it is your turn: send roll, or send double\n",
+    ),
+    (
+        &[Cue::Loses, Cue::Opens, Cue::Hears(WELCOME), Cue::Hears(SETTINGS), Cue::Hears(WON_BY_MORE), Cue::Rests],
+        "\nThe game is over. You 4, bob 1 of 3.\n",
+    ),
+];
+
+#[test]
+fn rows_come_in_their_order() {
+    assert_scenes(plain_settings(), &ORDER);
+}
+
 #[test]
 fn an_offer_leads_on() {
     assert_scenes(plain_settings(), &OFFERS);

@@ -10,6 +10,11 @@ const CONVERSATIONS: u64 = 60;
 
 const STEPS: usize = 400;
 
+/// The same of short ones.
+const SHORT_CONVERSATIONS: u64 = 3000;
+
+const FEW_STEPS: usize = 24;
+
 /// A double that is offered, and a game that is over.
 const DOUBLED: &[u8] =
     b"board:You:bob:3:0:1:0:-2:0:0:0:0:5:0:3:0:0:0:-5:5:0:0:0:-3:1:-5:0:0:0:0:1:0:1:0:0:0:0:2:0:1:1:1:-1:0:25:0:0:0:0:2:0:0:0\r\n";
@@ -124,11 +129,11 @@ fn push_event(chance: &mut u64, steps: &mut Vec<Cue<'static>>) -> Result<(), All
     Ok(())
 }
 
-/// A conversation, drawn at random.
-fn conversation(seed: u64) -> Result<Vec<Cue<'static>>, AllocError> {
+/// A conversation of so many events, drawn at random.
+fn conversation(seed: u64, count: usize) -> Result<Vec<Cue<'static>>, AllocError> {
     let mut steps = Vec::new();
     let mut chance = seed;
-    for _ in 0..STEPS {
+    for _ in 0..count {
         push_event(&mut chance, &mut steps)?;
     }
     Ok(steps)
@@ -148,8 +153,22 @@ fn widest(text: &str) -> usize {
 #[test]
 fn texts_in_any_order_make_rows_that_fit() {
     for seed in 0..CONVERSATIONS {
-        let steps = conversation(seed).expect("there is memory");
+        let steps = conversation(seed, STEPS).expect("there is memory");
         let text = shown(plain_settings(), &FIRST_BOARD, steps.as_slice());
         assert_wanted(widest(&text) <= 79, &text, "79 columns");
+    }
+}
+
+/// Whatever came before, once the user asks for the board, and it is his to decide on it, something is advised.
+#[test]
+fn no_order_of_texts_is_a_dead_end() {
+    for seed in 0..SHORT_CONVERSATIONS {
+        let before = conversation(seed * 7919 + 1, seed as usize % FEW_STEPS).expect("there is memory");
+        for board in [TO_ROLL, TO_MOVE, DOUBLED] {
+            let asks = [Cue::Types(b"board"), Cue::Hears(board), Cue::Types(b"help"), Cue::Rests];
+            let text = shown(plain_settings(), &[&FIRST_BOARD[..], &before].concat(), &asks);
+            let advised = text.rsplit("help WORD says more about a word.\n").next().unwrap_or_default();
+            assert_wanted(!advised.is_empty(), &text, "a way on");
+        }
     }
 }

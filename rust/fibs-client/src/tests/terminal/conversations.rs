@@ -142,7 +142,7 @@ static TYPED: [Scene; 25] = [
     ),
     (
         &[Cue::Types(b"toggle greedy"), Cue::Rests],
-        "It is off already, or will be at your next login. [10 NotOn]\nYour turn: roll, or double.\n",
+        "It is off, or will be at your next login; or no settings came yet. [10 NotOn]\nYour turn: roll, or double.\n",
     ),
     (&[Cue::Types(b"help"), Cue::Rests], "help WORD says more about a word.\nYour turn: roll, or double.\n"),
     (&[Cue::Types(b"help roll"), Cue::Rests], "roll (or r): rolls your dice.\n"),

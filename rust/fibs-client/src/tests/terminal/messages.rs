@@ -34,6 +34,17 @@ fn messages_are_worded() {
     }
 }
 
+/// What the user says is talk too; a text is not hidden since it begins as one that says no more than the hint.
+#[test]
+fn what_one_says_oneself_is_kept_and_no_other_text_is_hidden() {
+    let shouted = [Cue::Hears(b"17 hello\r\n"), Cue::Types(b"talk")];
+    assert_shows(plain_settings(), &shouted, "13:07 You shout: hello\n13:07 You shout: hello\n");
+    for text in ["It's your turn, ann!", "It's your turn.", "It's your turn tomorrow."] {
+        let line = format!("{text}\r\n");
+        assert_shows(plain_settings(), &[Cue::Hears(line.as_bytes())], &format!("{text}\n"));
+    }
+}
+
 #[test]
 fn letters_stand_as_they_are() {
     let settings = Settings { utf8: true, bell: true, ..plain_settings() };

@@ -142,6 +142,68 @@ dave                    900.05       0     0 m   ready
 ",
 )];
 
+/// The match that is saved has a star, which is explained, wherever its row is.
+static STARS: [Scene; 1] = [(
+    &[
+        Cue::Hears(LEFT),
+        Cue::Hears(b"5 dave - - 1 0 900.05 0 0 1 host - -\r\n"),
+        Cue::Hears(b"5 bob - - 1 0 1623.45 0 0 1 host - -\r\n"),
+        Cue::Hears(b"6\r\n"),
+        Cue::Types(b"players"),
+    ],
+    "player                  rating  points    idle   does
+bob *                  1623.45       0     0 m   ready
+dave                    900.05       0     0 m   ready
+* your match with this player is saved: invite NAME resumes it.
+2 players.
+",
+)];
+
+/// A name of more than 24 bytes is whole in a line that is to be typed, which has a row of its own then.
+static LONG_NAMES: [Scene; 4] = [
+    (
+        &[
+            Cue::Hears(LEFT),
+            Cue::Hears(b"abcdefghijabcdefghijabcdefghijabcdefghij wants to play a 3 point match with you.\r\n"),
+            Cue::Types(b"help"),
+            Cue::Rests,
+        ],
+        "about a word.\nYou are invited:\njoin abcdefghijabcdefghijabcdefghijabcdefghij\n",
+    ),
+    (
+        &[
+            Cue::Hears(b"** Player abcdefghijabcdefghijabcdefghijabcdefghij has joined you for a 3 point match.\r\n"),
+            Cue::Hears(b"** You terminated the game. The game was saved.\r\n"),
+            Cue::Rests,
+        ],
+        "Your match may be saved:\ninvite abcdefghijabcdefghijabcdefghijabcdefghij,
+or join abcdefghijabcdefghijabcdefghijabcdefghij,\nif you are invited.\n",
+    ),
+    (
+        &[Cue::Hears(b"12 abcdefghijabcdefghijabcdefghijabcdefghij hi\r\n"), Cue::Types(b"re hello")],
+        "\nsent tell abcdefghijabcdefghijabcdefghijabcdefghij hello\n",
+    ),
+    (
+        &[
+            Cue::Hears(b"opponent          matchlength   score (your points first)\r\n"),
+            Cue::Hears(b"abcdefghijabcdefghijabcdefghijabcdefghij 5 1 - 2\r\n"),
+            Cue::Hears(b"** You're not playing.\r\n"),
+            Cue::Hears(b"7 abcdefghijabcdefghijabcdefghijabcdefghij logs in.\r\n"),
+        ],
+        "is saved:\ninvite abcdefghijabcdefghijabcdefghijabcdefghij.\n",
+    ),
+];
+
+#[test]
+fn a_name_that_is_to_be_typed_is_whole() {
+    assert_scenes(plain_settings(), &LONG_NAMES);
+}
+
+#[test]
+fn a_star_is_explained() {
+    assert_scenes(plain_settings(), &STARS);
+}
+
 #[test]
 fn the_user_is_not_listed() {
     assert_scenes(plain_settings(), &PLAYERS);

@@ -172,10 +172,20 @@ fn what_is_of_another_connection_or_opponent_is_forgotten() {
 }
 
 /// A line that is sent as it is: an answer ends the offer, a decision is what waits, after any the row is said again.
-static PASSED: [Scene; 3] = [
+static PASSED: [Scene; 4] = [
     (
         &[Cue::Hears(MOVED), Cue::Hears(RESIGNS), Cue::Rests, Cue::Types(b"send accept"), Cue::Rests],
         "send reject.\nsent as it is: accept\n",
+    ),
+    (
+        &[
+            Cue::Hears(MOVED),
+            Cue::Hears(RESIGNS),
+            Cue::Types(b"send accept "),
+            Cue::Hears(b"** You did already roll the dice.\r\n"),
+            Cue::Rests,
+        ],
+        "** You did already roll the dice.\nbob waits for your answer: send accept, or send reject.\n",
     ),
     (
         &[

@@ -101,7 +101,11 @@ impl TestSeat {
                 Ok(command) => Said::Sent(command),
                 Err(why) => Said::NotSent(*why),
             }),
-            Typed::Order | Typed::Withdrawal => Ok(()),
+            Typed::Order => front.tell(&match self.client.order_roll() {
+                Ok(()) => Said::Ordered,
+                Err(why) => Said::Refused(why),
+            }),
+            Typed::Withdrawal => Ok(()),
             Typed::Unknown => front.tell(&Said::Unknown),
         }
     }
@@ -125,6 +129,7 @@ impl TestSeat {
             Cue::Rests => front.rest(&self.client, &self.directory),
             Cue::Opens => {
                 let _login = self.client.open();
+                self.directory.clear();
                 front.tell(&Said::Opened)
             }
             Cue::Fails => front.tell(&Said::NoConnection(ErrorKind::ConnectionRefused)),
@@ -157,10 +162,10 @@ fn tell_taken<F: Front>(directory: &mut Directory, taken: &Taken<'_>, front: &mu
     let found = game_in(&taken.reading);
     tell_heard(found.as_ref(), taken, front)?;
     note(directory, &taken.reading, front)?;
-    match &taken.confirmed {
-        Some(asked) => front.tell(&Said::Confirmed(asked)),
-        None => Ok(()),
+    if let Some(asked) = &taken.confirmed {
+        front.tell(&Said::Confirmed(asked))?;
     }
+    if taken.rolled { front.tell(&Said::Rolled) } else { Ok(()) }
 }
 
 /// The board that a reading says, with its position, if the user plays in its game.

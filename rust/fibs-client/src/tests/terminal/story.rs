@@ -101,3 +101,32 @@ fn a_story_has_both_players_in_their_order() {
     assert_eq!(rows[1], "  2. bob rolls 6 and 6: ?");
     assert_eq!(story_of(&[first], true), "No board of this game has shown a roll and its play yet.\n");
 }
+
+/// Of very many turns the oldest are forgotten, and each keeps its number.
+#[test]
+fn the_oldest_turns_of_a_long_game_are_forgotten() {
+    let first = Board::read(FIRST).expect("a board");
+    let before = *rolled(&first, [3, 1]).board();
+    let play = any_play(&good(&before), &mut Chance(7));
+    let after = effect(&before, &Decision::Move(play), [0, 0]).expect("a legal play");
+    let boards = [before, after].repeat(502);
+    let rows = story_of(&boards, true);
+    let turns: Vec<&str> = rows.lines().filter(|row| row.contains("You roll 3 and 1:")).collect();
+    assert_eq!(turns.len(), 500, "{rows}");
+    assert!(turns[0].starts_with("  3. ") && turns[499].starts_with("502. "), "{} and {}", turns[0], turns[499]);
+}
+
+/// A match of another length is another match.
+#[test]
+fn a_match_of_another_length_has_a_story_of_its_own() {
+    let first = Board::read(FIRST).expect("a board");
+    let before = *rolled(&first, [3, 1]).board();
+    let play = any_play(&good(&before), &mut Chance(7));
+    let after = effect(&before, &Decision::Move(play), [0, 0]).expect("a legal play");
+    let line = String::from_utf8(FIRST.to_vec()).expect("ASCII");
+    let longer = line.replacen(":3:0:0:", ":5:0:0:", 1);
+    assert_ne!(line, longer);
+    let other = Board::read(longer.as_bytes()).expect("a board");
+    assert!(story_of(&[before, after], true).contains("You roll 3 and 1"));
+    assert_eq!(story_of(&[before, after, other], true), "No board of this game has shown a roll and its play yet.\n");
+}
