@@ -126,7 +126,7 @@ def at_most_79_columns():
 
 
 def on_a_small_terminal():
-    """60 by 15, as the environment has it: the picture and its hint fit."""
+    """60 by 15, as the environment has it: each row fits, and the board leaves room for what is below it."""
     follower = match_by_hints(seed=5, columns=60, rows=15, COLUMNS='60')
     lines = follower.ann.lines()
     drawn = [line for line in lines if PICTURE.fullmatch(line)]

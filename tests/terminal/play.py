@@ -129,12 +129,12 @@ def tab_completes_the_players_names(server):
 def a_small_terminal(server):
     """The program is told how many columns there are: no row of a picture is wider."""
     for kind in 'xterm', 'dumb':
-        player = begun(server, kind, columns=60)
+        player = begun(server, kind, columns=72)
         player.is_shown('Welcome, ann')
         player.type('invite eve 3')
         player.is_shown('-+   O You')
         rows = [line for line in player.plain().split('\n') if re.fullmatch(r' [|+].*', line)]
-        same('rows of pictures that are wider', [row for row in rows if len(row) > 60], [])
+        same('rows of pictures that are wider', [row for row in rows if len(row) > 72], [])
         player.type('quit')
         player.ends(0)
         player.close()

@@ -1,12 +1,23 @@
--- Why a picture determines its board, and fits a terminal.
+-- Why a picture determines its board, how the eye sees it, and why it fits a terminal.
+pub mod Letters
+pub mod Rows
+pub mod Reading
+pub mod Where
+pub mod Sides
+pub mod Ranges
+pub mod Board
+pub mod Words
+pub mod Solid
+pub mod Facts
+pub mod Below
+pub mod Deed
+pub mod Widths
+pub mod Fits
+pub mod Tells
+pub mod Eye
+pub mod Seen
+pub mod Growing
+pub mod Spaced
 pub mod Pips
 pub mod Parts
-pub mod Columns
-pub mod Cells
-pub mod Sides
 pub mod Notes
-pub mod Layers
-pub mod Told
-pub mod Fits
-pub mod Watched
-pub mod WatchedFits

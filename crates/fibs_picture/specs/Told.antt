@@ -1,12 +1,10 @@
--- What a picture says of a board.
+-- What the words of a board say of it.
 use Rattle.std.specs.Prelude.{◌≡◌, pos, [], ◌∷◌, map, take, if◌then◌else◌}
 use Rattle.std.specs.Ordering.{int_eq}
 use Rattle.fibs_fields.specs.Board.{BoardFields, field_of}
 use Rattle.fibs_position.specs.DirectionOf.{direction_of}
-use Rattle.fibs_position.specs.GoodBoard.{IsGood}
 use Rattle.fibs_position.specs.OwnView.{own_view, turn, colour}
 use Rattle.fibs_position.specs.Phases.{phase_of}
-use Rattle.fibs_picture.specs.Picture.{picture}
 
 -- one of the two players, or neither
 pub data Whose : Type 0 where
@@ -20,7 +18,7 @@ whose_turn b =
     if int_eq (turn b) (pos 0) then nobodys
     else (if int_eq (turn b) (colour b) then the_players else the_opponents)
 
--- two boards look the same in their pictures
+-- two boards are the same in words
 pub record SameToTheEye (a b : BoardFields) : Type 0 where
   pub arrangement : own_view a ≡ own_view b
   pub direction : direction_of a ≡ direction_of b
@@ -37,7 +35,3 @@ pub record SameToTheEye (a b : BoardFields) : Type 0 where
   pub match_length : field_of a 4 ≡ field_of b 4
   -- as much of the opponent's name as is shown
   pub opponent : take 30 a.opponent ≡ take 30 b.opponent
-
--- boards with the same picture, each with a position, look the same
-abbrev pub PictureTells : Type 0
-PictureTells = (a b : BoardFields) → IsGood a → IsGood b → picture a ≡ picture b → SameToTheEye a b

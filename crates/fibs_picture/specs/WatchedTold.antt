@@ -1,15 +1,11 @@
--- What the picture of a board says that the user watches, and how large it is.
-use Rattle.std.specs.Prelude.{◌≡◌, ℕ, List, [], ◌∷◌, length, map, take}
-use Rattle.std.specs.List.{flat_map, AllByRecursion}
+-- What the words of a board say that the user watches.
+use Rattle.std.specs.Prelude.{◌≡◌, [], ◌∷◌, map, take}
 use Rattle.fibs_fields.specs.Board.{BoardFields, field_of}
 use Rattle.fibs_position.specs.DirectionOf.{direction_of}
 use Rattle.fibs_position.specs.OwnView.{own_view}
-use Rattle.fibs_position.specs.Watched.{IsWatched}
-use Rattle.fibs_picture.specs.Fits.{Fits, ended}
 use Rattle.fibs_picture.specs.Told.{whose_turn}
-use Rattle.fibs_picture.specs.Watched.{watched_picture}
 
--- two boards look the same to who watches them
+-- two boards are the same to who watches them
 pub record SameToTheWatcher (a b : BoardFields) : Type 0 where
   pub arrangement : own_view a ≡ own_view b
   pub direction : direction_of a ≡ direction_of b
@@ -25,15 +21,3 @@ pub record SameToTheWatcher (a b : BoardFields) : Type 0 where
   -- as much of both names as is shown
   pub player : take 30 a.player ≡ take 30 b.player
   pub opponent : take 30 a.opponent ≡ take 30 b.opponent
-
--- watched boards with the same picture look the same
-abbrev pub WatchedPictureTells : Type 0
-WatchedPictureTells =
-    (a b : BoardFields) → IsWatched a → IsWatched b → watched_picture a ≡ watched_picture b → SameToTheWatcher a b
-
--- the picture of a watched board is thirteen lines that fit
-abbrev pub WatchedPictureFits : Type 0
-WatchedPictureFits =
-    (b : BoardFields) → IsWatched b
-    → (lines : List (List ℕ))
-    × (length lines ≡ 13) × AllByRecursion Fits lines × (watched_picture b ≡ flat_map ended lines)

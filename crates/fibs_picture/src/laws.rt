@@ -1,38 +1,48 @@
 //! Laws of pictures. Each is a promise; the functions do nothing else.
 ghost use Rattle.fibs_picture.specs.Fits.{PictureFits};
-ghost use Rattle.fibs_picture.specs.Told.{PictureTells};
-ghost use Rattle.fibs_picture.specs.WatchedTold.{WatchedPictureTells, WatchedPictureFits};
+ghost use Rattle.fibs_picture.specs.Rows.{CellsTell, EyeSees};
+ghost use Rattle.fibs_picture.specs.Tells.{FactsTell, PictureTells, PictureSeen};
 
 use fibs_fields::boards::laws::fields_have_their_ranges;
 
-/// Boards with the same picture, each with a position, look the same (`SameToTheEye`).
-#[tactic(auto, using(crate::proofs::PictureLemmas::Told::picture_tells))]
+/// Boards whose rows the eye sees alike have the same checkers on each place; also which way the player goes by the
+/// server's numbers, if those are shown.
+pub fn cells_tell()
+    ensures { CellsTell }
+{
+    fields_have_their_ranges();
+}
+
+/// The eye sees of a row its bytes, whatever is marked.
+pub fn eye_sees()
+    ensures { EyeSees }
+{}
+
+/// Boards with the same cells and the same facts look the same (`SameOnScreen`), wherever the words stand.
+pub fn facts_tell()
+    ensures { FactsTell }
+{
+    fields_have_their_ranges();
+}
+
+/// Boards that the eye sees alike look the same, whatever the letters, the numbers, the marks, the side and the columns
+/// are.
 pub fn picture_tells()
     ensures { PictureTells }
 {
     fields_have_their_ranges();
 }
 
-/// The picture of a board that has a position is fourteen lines of plain ASCII, of at most 79 columns.
-#[tactic(auto, using(crate::proofs::PictureLemmas::Fits::picture_fits))]
+/// The eye sees of a picture that is written its bytes, whatever is marked.
+pub fn picture_seen()
+    ensures { PictureSeen }
+{
+    fields_have_their_ranges();
+}
+
+/// From 40 columns on a picture is rows that fit.
 pub fn picture_fits()
     ensures { PictureFits }
-{
-    fields_have_their_ranges();
-}
-
-/// Watched boards with the same picture look the same (`SameToTheWatcher`).
-#[tactic(auto, using(crate::proofs::PictureLemmas::Watched::watched_picture_tells))]
-pub fn watched_picture_tells()
-    ensures { WatchedPictureTells }
-{
-    fields_have_their_ranges();
-}
-
-/// The picture of a watched board is thirteen lines of plain ASCII, of at most 79 columns.
-#[tactic(auto, using(crate::proofs::PictureLemmas::WatchedFits::watched_picture_fits))]
-pub fn watched_picture_fits()
-    ensures { WatchedPictureFits }
 {
     fields_have_their_ranges();
 }

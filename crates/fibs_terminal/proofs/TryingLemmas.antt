@@ -10,7 +10,7 @@ use Rattle.fibs_commands.specs.PlainReading.{read_plain, plain_in, alone_in, say
 use Rattle.fibs_session.specs.History.Machine.{Talk, shown_now}
 use Rattle.fibs_session.specs.Typing.{typed_as, typed_now, is_command, order_in, shown_direction}
 use Rattle.fibs_wording.specs.declared.environment.settings.Settings.{Settings}
-use Rattle.fibs_terminal.specs.Drawings.{DrawsBoard, TellsBoard, is_plain, is_worded}
+use Rattle.fibs_terminal.specs.Drawings.{Draws, TellsBoard, is_plain, is_worded}
 use Rattle.fibs_connect.specs.declared.wish.Wish.TheVariants.{Say}
 use Rattle.fibs_advice.specs.Leads.{LeadsTo}
 use Rattle.fibs_advice.specs.Trials.{tried, tried_on}
@@ -33,11 +33,11 @@ adds Shows x b before mid after leads drawn row =
 -- the same as a picture, or in words
 pub trial_shown : (s : Settings) (x : Trial) (b : BoardFields) (before mid after : List ℕ)
     → LeadsTo (tried_on x) (tried x) b
-    → (is_plain s ≡ true → (t : List ℕ) × DrawsBoard b t × (mid ≡ before ++ t))
+    → (s.words ≡ false → (t : List ℕ) × Draws s false (is_plain s) b t × (mid ≡ before ++ t))
     → (is_worded s ≡ true → (t : List ℕ) × TellsBoard b t × (mid ≡ before ++ t))
     → after ≡ mid ++ go_row (tried_command x) → ShowsTrial s x before after
 trial_shown s x b before mid after leads plain worded row = record {
-  drawn = λ is. adds DrawsBoard x b before mid after leads (plain is) row;
+  drawn = λ is. adds (Draws s false (is_plain s)) x b before mid after leads (plain is) row;
   told = λ is. adds TellsBoard x b before mid after leads (worded is) row;
 }
 

@@ -1,26 +1,64 @@
--- What a terminal draws, or tells, for a board that has a position (the project's own).
-use Rattle.std.specs.Prelude.{◌≡◌, ◌&&◌, ℕ, List, Bool, not, nat_le, is_none}
+-- How a terminal draws a board, or tells it (the project's own).
+use Rattle.std.specs.Prelude.{◌≡◌, ◌≤◌, ◌&&◌, ℕ, List, [], ◌∷◌, Bool, Option, Some, None, not, nat_le, is_none, slice_index, if◌then◌else◌}
+use Rattle.std.specs.List.{flat_map, AllByRecursion}
 use Rattle.fibs_fields.specs.Board.{BoardFields}
 use Rattle.fibs_position.specs.GoodBoard.{IsGood}
-use Rattle.fibs_picture.specs.Picture.{picture}
-use Rattle.fibs_picture.specs.Told.{SameToTheEye}
+use Rattle.fibs_position.specs.PositionValue.{position_of}
+use Rattle.fibs_picture.specs.Fits.{Fits, ended}
 use Rattle.fibs_picture.specs.InWords.Words.{words}
+use Rattle.fibs_picture.specs.Look.{are_letters}
+use Rattle.fibs_picture.specs.Marks.{seen}
+use Rattle.fibs_picture.specs.Tells.{IsSeen, SameOnScreen, SameDeed}
+use Rattle.fibs_picture.specs.Told.{SameToTheEye}
+use Rattle.fibs_picture.specs.Whole.{written_picture}
+use Rattle.fibs_picture.specs.declared.look.Look.{Look}
+use Rattle.fibs_picture.specs.declared.look.Numbers.TheVariants as N
 use Rattle.fibs_wording.specs.declared.environment.settings.Settings.{Settings}
 
--- the terminal takes the picture as it is: it shows nothing in bold, and is wide enough; the user has asked for no
--- other letters and no other side
+-- ---- pictures
+
+-- the letters of both sides: O and X, if the user has none that can be told from each other and from digits
+abbrev pub letters_of : Option (List ℕ) → List ℕ
+letters_of None = 79 ∷ 88 ∷ []
+letters_of (Some letters) =
+    if are_letters (slice_index letters 0) (slice_index letters 1) then letters else 79 ∷ 88 ∷ []
+
+-- the terminal shows nothing in bold, and is wide; the user has asked for no other letters and no other side
 abbrev pub is_plain : Settings → Bool
 is_plain s =
     not s.words && (not s.colour && (is_none s.letters && (not s.is_turned && nat_le 79 s.columns)))
 
--- its picture
-abbrev pub DrawsBoard : BoardFields → List ℕ → Type 0
-DrawsBoard b text = text ≡ picture b
+-- how a terminal draws
+abbrev pub look_of : Settings → Look
+look_of s = record {
+  own = slice_index (letters_of s.letters) 0;
+  other = slice_index (letters_of s.letters) 1;
+  numbers = N.TheServers;
+  is_turned = s.is_turned;
+  is_marked = s.colour;
+  is_long = is_plain s;
+  columns = s.columns;
+}
 
--- boards with the same drawing look the same
+-- the picture of a board of the user's game, or of one that he watches: what can be done is below it if that is wanted,
+-- and the opponent's checkers may be marked that have come
+abbrev pub Draws : Settings → Bool → Bool → BoardFields → List ℕ → Type 0
+Draws s watched wanted b text = (arrivals : List ℕ)
+    × (text ≡ written_picture (look_of s) watched wanted b (position_of b) arrivals)
+
+-- boards whose drawings the eye sees alike look the same: on every terminal
 abbrev pub DrawingsTell : Type 0
-DrawingsTell = (a b : BoardFields) (text : List ℕ) → IsGood a → IsGood b → DrawsBoard a text → DrawsBoard b text
-    → SameToTheEye a b
+DrawingsTell = (s : Settings) (watched wanted : Bool) (a b : BoardFields) (t u : List ℕ) → IsSeen a → IsSeen b
+    → Draws s watched wanted a t → Draws s watched wanted b u → seen t ≡ seen u
+    → SameOnScreen (look_of s) a b × SameDeed (look_of s) watched wanted a b
+
+-- from 40 columns on the eye sees of a drawing rows that fit the terminal
+abbrev pub DrawingsFit : Type 0
+DrawingsFit = (s : Settings) (watched wanted : Bool) (b : BoardFields) (t : List ℕ) → IsSeen b → 40 ≤ s.columns
+    → Draws s watched wanted b t
+    → (lines : List (List ℕ)) × AllByRecursion (Fits s.columns) lines × (seen t ≡ flat_map ended lines)
+
+-- ---- words
 
 -- the terminal has room for each row of a board in words
 abbrev pub is_wide : ℕ → Bool

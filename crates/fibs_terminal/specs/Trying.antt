@@ -10,7 +10,7 @@ use Rattle.fibs_session.specs.Typing.{typed_now, typed_decision, is_command}
 use Rattle.fibs_fields.specs.Split.{before}
 use Rattle.fibs_connect.specs.Wishes.{typed_limit}
 use Rattle.fibs_wording.specs.declared.environment.settings.Settings.{Settings}
-use Rattle.fibs_terminal.specs.Drawings.{DrawsBoard, TellsBoard, is_plain, is_worded}
+use Rattle.fibs_terminal.specs.Drawings.{Draws, TellsBoard, is_plain, is_worded}
 use Rattle.fibs_connect.specs.declared.wish.Wish.{Wish}
 use Rattle.fibs_connect.specs.declared.wish.Wish.TheVariants.{Say, Answered}
 use Rattle.fibs_advice.specs.Leads.{LeadsTo}
@@ -30,9 +30,9 @@ abbrev pub AddsTrial : (BoardFields → List ℕ → Type 0) → Trial → List 
 AddsTrial Shows x before after = (b : BoardFields) × LeadsTo (tried_on x) (tried x) b × ((picture : List ℕ)
     × Shows b picture × (after ≡ before ++ (picture ++ go_row (tried_command x))))
 
--- the board is drawn if the terminal takes a picture as it is, and told if it takes the words as they are
+-- the board is drawn, or told if the user has asked for words and the terminal takes them as they are
 pub record ShowsTrial (s : Settings) (x : Trial) (before : List ℕ) (after : List ℕ) : Type 0 where
-  pub drawn : is_plain s ≡ true → AddsTrial DrawsBoard x before after
+  pub drawn : s.words ≡ false → AddsTrial (Draws s false (is_plain s)) x before after
   pub told : is_worded s ≡ true → AddsTrial TellsBoard x before after
 
 -- the move was tried on the board that is shown, and the client would take it

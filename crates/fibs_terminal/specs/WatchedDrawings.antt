@@ -1,20 +1,10 @@
--- What a terminal draws, or tells, for a board that the user watches (the project's own).
+-- What a terminal tells for a board that the user watches (the project's own).
 use Rattle.std.specs.Prelude.{◌≡◌, ℕ, List}
 use Rattle.fibs_fields.specs.Board.{BoardFields}
 use Rattle.fibs_position.specs.Phases.{phase_of}
 use Rattle.fibs_position.specs.Watched.{IsWatched}
-use Rattle.fibs_picture.specs.Watched.{watched_picture}
 use Rattle.fibs_picture.specs.WatchedTold.{SameToTheWatcher}
 use Rattle.fibs_picture.specs.InWords.Watched.{watched_words}
-
--- its picture
-abbrev pub DrawsWatched : BoardFields → List ℕ → Type 0
-DrawsWatched b text = text ≡ watched_picture b
-
--- watched boards with the same drawing look the same to the watcher
-abbrev pub WatchedDrawingsTell : Type 0
-WatchedDrawingsTell = (a b : BoardFields) (text : List ℕ) → IsWatched a → IsWatched b → DrawsWatched a text
-    → DrawsWatched b text → SameToTheWatcher a b
 
 -- the board in words
 abbrev pub TellsWatched : BoardFields → List ℕ → Type 0

@@ -3,7 +3,7 @@
 
 mod boards;
 pub mod laws;
-mod layout;
+mod look;
 mod outcomes;
 mod picture;
 mod watched;
@@ -11,7 +11,8 @@ mod watching;
 mod worded;
 
 pub(crate) use boards::Boards;
-pub use picture::append_picture;
-pub(crate) use watched::{append_watched, append_watched_words};
+pub use picture::{append_marked, append_picture};
+pub use watched::append_watched;
+pub(crate) use watched::append_watched_words;
 pub(crate) use watching::Watching;
 pub(crate) use worded::append_words;

@@ -1,414 +1,322 @@
--- A picture is fourteen lines that fit a terminal.
-use Rattle.std.proofs.Common.{◌≡◌, ◌<◌, ◌≤◌, ◌+◌, ◌/◌, ◌%◌, ◌^◌, ◌==◌, ◌&&◌, ◌++◌, ℕ, zero, suc, Bool, true, false, cond, List, [], ◌∷◌, length, take, codes, map, refl, sym, arith, lit<, lit≤, nat_lt, nat_le, append_assoc}
-use Rattle.std.specs.Prelude.{ℤ, pos, negsuc, decimal, slice_index}
-use Rattle.std.specs.Fmt.{signed_decimal}
-use Rattle.std.specs.Int.{is_in_range}
-use Rattle.std.specs.List.{flat_map, list_all, AllByRecursion}
-use Rattle.std.specs.Ordering.{int_eq}
-use Rattle.std.proofs.lemmas.Bool.{and_parts}
+-- A picture fits its terminal.
+use Rattle.std.proofs.Common.{◌≡◌, ◌⊎◌, ◌<◌, ◌≤◌, ◌+◌, ◌-◌, ◌&&◌, ◌||◌, ◌++◌, ℕ, Bool, true, false, cond, not, List, [], ◌∷◌, length, refl, sym, ◌∙◌, ap, arith, lit≤, map, nat_lt, nat_le, append-nil, append_assoc, inl, inr}
+use Rattle.std.specs.List.{flat_map, AllByRecursion}
 use Rattle.std.proofs.lemmas.Bool.Decides.{nat_tests}
-use Rattle.std.proofs.lemmas.Fmt.{decimal_by_steps, length-decimal-le}
-use Rattle.std.proofs.lemmas.Int.{ints}
-use Rattle.std.proofs.lemmas.List.{length-append, length-take}
+use Rattle.std.proofs.lemmas.List.{length-append}
 use Rattle.std.proofs.lemmas.List.Concat.{flat_map-append}
-use Rattle.std.proofs.lemmas.List.Folds.{list_all-append}
-use Rattle.fibs_fields.specs.Board.{BoardFields, field_of}
+use Rattle.fibs_fields.specs.Board.{BoardFields}
 use Rattle.fibs_fields.specs.FieldRanges.{FieldRanges}
-use Rattle.fibs_fields.specs.Name.{is_name, is_name_byte}
-use Rattle.fibs_rules.specs.Checkers.{Checkers}
 use Rattle.fibs_position.specs.DecisionValue.{accept, double}
-use Rattle.fibs_position.specs.GoodBoard.{IsGood}
-use Rattle.fibs_fields.specs.FieldReading.{natural}
-use Rattle.fibs_position.specs.OwnView.{own_view, turn, colour}
 use Rattle.fibs_position.specs.Phases.{phase_in}
 use Rattle.fibs_position.specs.PositionValue.{PositionValue, position_of}
-use Rattle.fibs_position.specs.declared.direction.Direction.{Direction}
-use Rattle.fibs_position.specs.declared.direction.Direction.TheVariants.{Down, Up}
 use Rattle.fibs_position.specs.declared.phase.Phase.{Phase}
 use Rattle.fibs_position.specs.declared.phase.Phase.TheVariants as phase
-use Rattle.fibs_picture.specs.Cells.{two_digits, level, stack, label, own_letter, other_letter}
+use Rattle.fibs_picture.specs.Below.{is_full, facts_behind, facts_from, told, side_facts, match_facts, above, under, words_below}
+use Rattle.fibs_picture.specs.Cell.{seen_row}
 use Rattle.fibs_picture.specs.Fits.{Fits, ended, PictureFits}
-use Rattle.fibs_picture.specs.Picture.{line, upper_lines, lower_lines, drawn, picture, edge, layer, middle, named, six, left_first, right_first, labels, stands, stacks, bar, score, off, pips, own_pips, other_pips, dice, match_length, doublers, is_one, cube, turn_words, deed, deed_in, may}
-use Rattle.fibs_picture.specs.declared.half.Half.{Half}
-use Rattle.fibs_picture.specs.declared.half.Half.TheVariants as half
-use Rattle.fibs_picture.proofs.PictureLemmas.Layers.{length-edge, length-layer}
-use Rattle.fibs_picture.proofs.PictureLemmas.Notes.{Within, all-mono}
-use Rattle.fibs_picture.proofs.PictureLemmas.Told.{ranges-of, own-few, other-few, own-pips-few, other-pips-few}
+use Rattle.fibs_picture.specs.Look.{HasLetters}
+use Rattle.fibs_picture.specs.Notes.{spaced, room, note}
+use Rattle.fibs_picture.specs.Picture.{deed, deed_in, may}
+use Rattle.fibs_picture.specs.Strip.{is_below}
+use Rattle.fibs_picture.specs.Tells.{IsSeen}
+use Rattle.fibs_picture.specs.Whole.{rows_of, beside, seen_beside, lower_words, is_passing, has_deed, deed_row, seen_picture}
+use Rattle.fibs_picture.specs.declared.cell.Drawn.{Drawn}
+use Rattle.fibs_picture.specs.declared.cell.Half.{Half}
+use Rattle.fibs_picture.specs.declared.look.Look.{Look}
+use Rattle.fibs_picture.specs.declared.mark.Mark.TheVariants as M
+use Rattle.fibs_picture.specs.declared.notes.Note.{Note}
+use Rattle.fibs_picture.specs.declared.notes.Note.TheVariants as T
+use Rattle.fibs_picture.proofs.PictureLemmas.Ranges.{ranges-of}
+use Rattle.fibs_picture.proofs.PictureLemmas.Solid.{note-row}
+use Rattle.fibs_picture.proofs.PictureLemmas.Widths.{printed, printed-append, row-printed, wide-row, narrow-row, few-checkers, board-printed, room-is, beside-fits, note-width}
 
--- ---- printed text
+-- ---- rows of the board
 
--- each byte is printed text
-abbrev pub printed : List ℕ → Bool
-printed text = list_all (is_in_range 32 126) text
+-- a row without its end
+abbrev row_text : Look → Bool → BoardFields → Drawn × Note → List ℕ
+row_text look watched b row =
+    seen_row look (position_of b) row.0 ++ spaced (beside look watched b (position_of b) M.Plain row.1)
 
--- two printed texts in a row are printed
-pub printed-append : (xs ys : List ℕ) → printed xs ≡ true → printed ys ≡ true → printed (xs ++ ys) ≡ true
-printed-append xs ys h k = rw (list_all-append (is_in_range 32 126) xs ys, h, k) refl
+-- with it
+row-ended : (look : Look) (watched : Bool) (b : BoardFields) (row : Drawn × Note)
+    → seen_beside look watched b row ≡ ended (row_text look watched b row)
+unfolding seen_beside
+row-ended look watched b row = sym (append_assoc (seen_row look (position_of b) row.0)
+    (spaced (beside look watched b (position_of b) M.Plain row.1)) (10 ∷ []))
 
--- a choice of two printed texts is printed
-printed-cond : (b : Bool) (xs ys : List ℕ) → printed xs ≡ true → printed ys ≡ true → printed (cond b xs ys) ≡ true
-printed-cond true xs ys h k = h
-printed-cond false xs ys h k = k
+-- all rows
+rows-ended : (look : Look) (watched : Bool) (b : BoardFields) (rows : List (Drawn × Note))
+    → flat_map (seen_beside look watched b) rows ≡ flat_map ended (map (row_text look watched b) rows)
+rows-ended look watched b [] = refl
+rows-ended look watched b (row ∷ rows) = rw (row-ended look watched b row, rows-ended look watched b rows) refl
 
--- a row of printed texts is printed
-printed-flat_map : (f : ℕ → List ℕ) → ((n : ℕ) → printed (f n) ≡ true) → (ns : List ℕ)
-    → printed (flat_map f ns) ≡ true
-printed-flat_map f h [] = refl
-printed-flat_map f h (n ∷ ns) = printed-append (f n) (flat_map f ns) (h n) (printed-flat_map f h ns)
+-- the board alone fits, or has room for a fact
+side-fits : FieldRanges → (look : Look) → HasLetters look → (watched : Bool) (b : BoardFields) → IsSeen b
+    → 40 ≤ look.columns → (drawn : Drawn) (n : Note) (low : Bool) → is_below look.columns ≡ low
+    → Fits look.columns (seen_row look (position_of b) drawn
+    ++ spaced (cond low ([] ∷ []) (note look watched b (position_of b) M.Plain n)))
+side-fits f look h watched b s least drawn n true k =
+    let row = seen_row look (position_of b) drawn in (
+      omega (arith, length-append row [], narrow-row look (position_of b) drawn k least),
+      omega (arith, length-append row [], wide-row look (position_of b) drawn),
+      printed-append row [] (board-printed look h (position_of b) (few-checkers b s) drawn) refl,
+    )
+side-fits f look h watched b s least drawn n false k =
+    let row = seen_row look (position_of b) drawn in
+    let words = note look watched b (position_of b) M.Plain n in
+    let r = ranges-of f b s.board in
+    let wide = wide-row look (position_of b) drawn in
+    let brief = note-width look watched b s r n in
+    let most = beside-fits look.columns k in (
+      omega (arith, length-append row (spaced words), wide, brief, most.0),
+      omega (arith, length-append row (spaced words), wide, brief, most.1),
+      printed-append row (spaced words) (board-printed look h (position_of b) (few-checkers b s) drawn)
+          (row-printed words (note-row look h watched b s r n)),
+    )
 
--- a front of a printed text is printed
-pub printed-take : (n : ℕ) (xs : List ℕ) → printed xs ≡ true → printed (take n xs) ≡ true
-printed-take zero xs h = refl
-printed-take (suc n) [] h = refl
-printed-take (suc n) (x ∷ xs) h =
-    let parts = and_parts (is_in_range 32 126 x) (printed xs) h in
-    rw parts.0 (printed-take n xs parts.1)
+-- all rows fit
+rows-fit : FieldRanges → (look : Look) → HasLetters look → (watched : Bool) (b : BoardFields) → IsSeen b
+    → 40 ≤ look.columns → (rows : List (Drawn × Note))
+    → AllByRecursion (Fits look.columns) (map (row_text look watched b) rows)
+rows-fit f look h watched b s least [] = tt
+rows-fit f look h watched b s least (row ∷ rows) = (
+  side-fits f look h watched b s least row.0 row.1 (is_below look.columns) refl,
+  rows-fit f look h watched b s least rows,
+)
 
--- ---- what is drawn
+-- ---- facts in rows
 
--- a digit is printed
-digit-printed : (n : ℕ) → n < 10 → is_in_range 32 126 (48 + n) ≡ true
-digit-printed n h = grind (arith, nat_tests)
+-- the rows of some facts behind a row that ends at a column
+lines_behind : ℕ → ℕ → List ℕ → List (List ℕ) → List (List ℕ)
+lines_behind columns column row [] = row ∷ []
+lines_behind columns column row (fact ∷ facts) =
+    cond (is_full columns column fact) ((row ++ 44 ∷ []) ∷ lines_behind columns (length fact) fact facts)
+    (lines_behind columns (column + (2 + length fact)) (row ++ (44 ∷ 32 ∷ fact)) facts)
 
--- a digit, or what fills its place, is printed
-filled-printed : (b : Bool) (filler n : ℕ) → is_in_range 32 126 filler ≡ true → n < 10
-    → is_in_range 32 126 (cond b filler (48 + n)) ≡ true
-filled-printed true filler n h few = h
-filled-printed false filler n h few = digit-printed n few
+-- in the same row, or in the next one
+split-ended : (full : Bool) (row fact t u : List ℕ) (xs ys : List (List ℕ)) → fact ++ t ≡ flat_map ended xs
+    → (row ++ (44 ∷ 32 ∷ fact)) ++ u ≡ flat_map ended ys
+    → row ++ ((44 ∷ cond full 10 32 ∷ fact) ++ cond full t u) ≡ flat_map ended (cond full ((row ++ 44 ∷ []) ∷ xs) ys)
+split-ended true row fact t u xs ys h k =
+    ap (λ r. row ++ (44 ∷ 10 ∷ r)) h
+    ∙ sym (append_assoc (row ++ 44 ∷ []) (10 ∷ []) (flat_map ended xs)
+    ∙ append_assoc row (44 ∷ []) (10 ∷ flat_map ended xs))
+split-ended false row fact t u xs ys h k = sym (append_assoc row (44 ∷ 32 ∷ fact) u) ∙ k
 
--- a number of two digits is printed
-two_digits-printed : (filler n : ℕ) → is_in_range 32 126 filler ≡ true → n < 100 → printed (two_digits filler n) ≡ true
-two_digits-printed filler n h few =
-    rw (filled-printed (nat_lt n 10) filler (n / 10) h (omega arith), digit-printed (n % 10) (omega arith)) refl
+-- a choice of two columns
+behind-choice : (full : Bool) (columns m n : ℕ) (facts : List (List ℕ))
+    → facts_behind columns (cond full m n) facts ≡ cond full (facts_behind columns m facts)
+    (facts_behind columns n facts)
+behind-choice true columns m n facts = refl
+behind-choice false columns m n facts = refl
 
--- what is drawn of one side at a height is printed
-level-printed : (letter n height : ℕ) → is_in_range 32 126 letter ≡ true → n < 100
-    → printed (level letter n height) ≡ true
-level-printed letter n height h few = printed-cond (nat_lt n height) _ _ refl
-    (printed-cond ((height == 5) && nat_lt 5 n) _ _
-    (printed-append (two_digits 32 n) (32 ∷ []) (two_digits-printed 32 n refl few) refl) (rw h refl))
+-- some facts are rows
+behind-ended : (columns column : ℕ) (row : List ℕ) (facts : List (List ℕ))
+    → row ++ facts_behind columns column facts ≡ flat_map ended (lines_behind columns column row facts)
+unfolding lines_behind
+behind-ended columns column row [] = sym (append-nil (row ++ 10 ∷ []))
+behind-ended columns column row (fact ∷ facts) =
+    let full = is_full columns column fact in
+    let t = facts_behind columns (length fact) facts in
+    let u = facts_behind columns (column + (2 + length fact)) facts in
+    ap (λ r. row ++ ((44 ∷ cond full 10 32 ∷ fact) ++ r))
+    (behind-choice full columns (length fact) (column + (2 + length fact)) facts)
+    ∙ split-ended full row fact t u (lines_behind columns (length fact) fact facts)
+    (lines_behind columns (column + (2 + length fact)) (row ++ (44 ∷ 32 ∷ fact)) facts)
+    (behind-ended columns (length fact) fact facts)
+    (behind-ended columns (column + (2 + length fact)) (row ++ (44 ∷ 32 ∷ fact)) facts)
 
--- what is drawn of a place at a height is printed
-stack-printed : (own other height : ℕ) → own < 100 → other < 100 → printed (stack own other height) ≡ true
-stack-printed own other height h k = printed-cond (own == 0) _ _
-    (level-printed other_letter other height refl k) (level-printed own_letter own height refl h)
-
--- no place holds more checkers than two digits can say
-pub record IsFew (c : Checkers) : Type 0 where
-  pub own : (k : ℕ) → slice_index c.own k < 100
-  pub other : (k : ℕ) → slice_index c.other k < 100
-
--- what is drawn of some places at a height is printed
-stacks-printed : (c : Checkers) (height : ℕ) → IsFew c → (places : List ℕ) → printed (stacks c height places) ≡ true
-unfolding stacks stands
-stacks-printed c height few places = printed-flat_map (stands c height)
-    (λ p. stack-printed (slice_index c.own p) (slice_index c.other p) height (few.own p) (few.other p)) places
-
--- what is drawn of a bar at a height is printed
-bar-printed : (c : Checkers) (h : Half) (height : ℕ) → IsFew c → printed (bar c h height) ≡ true
-bar-printed c half.Upper height few = stack-printed (slice_index c.own 25) 0 height (few.own 25) (lit< tt)
-bar-printed c half.Lower height few = stack-printed 0 (slice_index c.other 0) height (lit< tt) (few.other 0)
-
--- what is drawn between the walls is printed if its parts are
-walled-printed : (a b c : List ℕ) → printed a ≡ true → printed b ≡ true → printed c ≡ true
-    → printed (codes " |" ++ (a ++ (codes "|" ++ (b ++ (codes "|" ++ (c ++ codes "|   ")))))) ≡ true
-walled-printed a b c h k m =
-    let third = printed-append c (codes "|   ") m refl in
-    let wall = printed-append (codes "|") (c ++ codes "|   ") refl third in
-    let second = printed-append b (codes "|" ++ (c ++ codes "|   ")) k wall in
-    let before = printed-append (codes "|") (b ++ (codes "|" ++ (c ++ codes "|   "))) refl second in
-    let first = printed-append a (codes "|" ++ (b ++ (codes "|" ++ (c ++ codes "|   ")))) h before in
-    printed-append (codes " |") (a ++ (codes "|" ++ (b ++ (codes "|" ++ (c ++ codes "|   "))))) refl first
-
--- what is drawn at a height of a half is printed
-layer-printed : (p : PositionValue) (h : Half) (height : ℕ) → IsFew p.standing.checkers
-    → printed (layer p h height) ≡ true
-unfolding layer
-layer-printed p h height few =
-    let c = p.standing.checkers in
-    walled-printed (stacks c height (six h (left_first h))) (bar c h height) (stacks c height (six h (right_first h)))
-    (stacks-printed c height few (six h (left_first h))) (bar-printed c h height few)
-    (stacks-printed c height few (six h (right_first h)))
-
--- the numbers of the left six places are printed
-left-printed : (d : Direction) (h : Half) → printed (labels d (six h (left_first h))) ≡ true
-unfolding labels label
-left-printed Down half.Upper = refl
-left-printed Down half.Lower = refl
-left-printed Up half.Upper = refl
-left-printed Up half.Lower = refl
-
--- the numbers of the right six places are printed
-right-printed : (d : Direction) (h : Half) → printed (labels d (six h (right_first h))) ≡ true
-unfolding labels label
-right-printed Down half.Upper = refl
-right-printed Down half.Lower = refl
-right-printed Up half.Upper = refl
-right-printed Up half.Lower = refl
-
--- an edge is printed if its numbers are
-numbered-printed : (a b : List ℕ) → printed a ≡ true → printed b ≡ true
-    → printed (codes " +" ++ (a ++ (codes "+---+" ++ (b ++ codes "+   ")))) ≡ true
-numbered-printed a b h k =
-    let second = printed-append b (codes "+   ") k refl in
-    let corner = printed-append (codes "+---+") (b ++ codes "+   ") refl second in
-    let first = printed-append a (codes "+---+" ++ (b ++ codes "+   ")) h corner in
-    printed-append (codes " +") (a ++ (codes "+---+" ++ (b ++ codes "+   "))) refl first
-
--- the edge of a half is printed
-edge-printed : (p : PositionValue) (h : Half) → printed (edge p h) ≡ true
-unfolding edge
-edge-printed p h = numbered-printed (labels p.direction (six h (left_first h)))
-    (labels p.direction (six h (right_first h))) (left-printed p.direction h) (right-printed p.direction h)
-
--- ---- what is said
-
--- beside 47 bytes that are drawn there is room for 32 more
-abbrev pub IsBrief : List ℕ → Type 0
+-- a fact is brief
+abbrev IsBrief : List ℕ → Type 0
 IsBrief text = (length text ≤ 32) × (printed text ≡ true)
 
--- a number is printed
-pub decimal-printed : (n : ℕ) → n < 2 ^ 64 → printed (decimal n) ≡ true
-decimal-printed n h = decimal_by_steps (λ n ds. printed ds ≡ true)
-    (λ n k. rw (digit-printed n k) refl)
-    (λ n ds k e. printed-append ds ((48 + n % 10) ∷ []) e (rw (digit-printed (n % 10) (omega arith)) refl))
-    n h
+-- there is room behind a row
+has-room : (columns column n : ℕ) → nat_lt (columns - column) (3 + n) ≡ false → column + (2 + n) + 1 ≤ columns
+has-room columns column n h = let enough : 3 + n ≤ columns - column = grind (arith, nat_tests) in omega (arith, enough)
 
--- a label of nine bytes at most, and a number of twenty at most
-labelled-brief : (label : List ℕ) (n : ℕ) → length label ≤ 9 → printed label ≡ true → n < 2 ^ 64
-    → IsBrief (label ++ decimal n)
-labelled-brief label n short h few =
-    let digits : length (decimal n) ≤ 20 = length-decimal-le 20 n (lit< tt) (omega (arith, few)) few in
-    (omega (arith, length-append label (decimal n)), printed-append label (decimal n) h (decimal-printed n few))
-
--- a label of nine bytes at most with a number is brief
-pub number-brief : (label : List ℕ) (m : ℕ) (z : ℤ) → length label ≤ 9 → printed label ≡ true → m < 2 ^ 32 → Within m z
-    → IsBrief (label ++ signed_decimal z)
-number-brief label m (pos n) short h few within = labelled-brief label n short h (omega (arith, ints, within.1))
-number-brief label m (negsuc n) short h few within = absurd (omega (arith, ints, within.0))
-
--- a byte of a name is printed
-pub name-byte-printed : (x : ℕ) → is_name_byte x ≡ true → is_in_range 32 126 x ≡ true
-name-byte-printed x h = grind (arith, nat_tests)
-
--- a letter and a name are brief
-pub named-brief : (letter : ℕ) (name : List ℕ) → is_in_range 32 126 letter ≡ true → is_name name ≡ true
-    → IsBrief (named letter name)
-unfolding named
-named-brief letter name h k =
-    let size = nat_lt 0 (length name) && nat_le (length name) 64 in
-    let bytes = (and_parts size (list_all is_name_byte name) k).1 in
-    let front = printed-take 30 name (all-mono is_name_byte (is_in_range 32 126) name-byte-printed name bytes) in
-    (omega (arith, length-take 30 name), rw (h, front) refl)
-
--- two dice, or none, are brief
-two_dice-brief : (none : Bool) (m n : ℕ) → m < 10 → n < 10
-    → IsBrief (codes "  dice  " ++ cond none (codes "-") ((48 + m) ∷ 32 ∷ (48 + n) ∷ []))
-two_dice-brief true m n h k = (lit≤ tt, refl)
-two_dice-brief false m n h k = (lit≤ tt, rw (digit-printed m h, digit-printed n k) refl)
-
--- a die has one digit
-natural-few : (z : ℤ) → Within 6 z → natural z < 10
-natural-few (pos n) h = omega (arith, ints, h.1)
-natural-few (negsuc n) h = lit< tt
-
--- the dice of a board are brief
-pub dice-brief : (y z : ℤ) → Within 6 y → Within 6 z → IsBrief (dice y z)
-dice-brief y z h k = two_dice-brief ((natural y == 0) && (natural z == 0)) (natural y) (natural z) (natural-few y h)
-    (natural-few z k)
-
--- the length of a match, or that it has none, is brief
-match_text-brief : (endless : Bool) (z : ℤ) → Within 9999 z
-    → IsBrief (cond endless (codes "unlimited match") (codes "match to " ++ signed_decimal z))
-match_text-brief true z h = (lit≤ tt, refl)
-match_text-brief false z h = number-brief (codes "match to ") 9999 z (lit≤ tt) refl (lit< tt) h
-
--- the length of a board's match is brief
-pub match-brief : (z : ℤ) → Within 9999 z → IsBrief (match_length z)
-match-brief z h = match_text-brief (int_eq z (pos 9999)) z h
-
--- who may double is told in 16 bytes at most
-doublers-brief : (a b : Bool) → (length (doublers a b) ≤ 16) × (printed (doublers a b) ≡ true)
-doublers-brief true true = (lit≤ tt, refl)
-doublers-brief true false = (lit≤ tt, refl)
-doublers-brief false true = (lit≤ tt, refl)
-doublers-brief false false = (lit≤ tt, refl)
-
--- a cube and who may double are brief
-cube_text-brief : (z : ℤ) (a b : Bool) → Within 1048576 z
-    → IsBrief (codes "cube " ++ (signed_decimal z ++ doublers a b))
-cube_text-brief (pos n) a b h =
-    let who = doublers-brief a b in
-    let few : n < 2 ^ 64 = omega (arith, ints, h.1) in
-    let digits : length (decimal n) ≤ 7 = length-decimal-le 7 n (lit< tt) (omega (arith, ints, h.1)) few in (
-      omega (arith, length-append (decimal n) (doublers a b), who.0),
-      printed-append (codes "cube ") (decimal n ++ doublers a b) refl
-          (printed-append (decimal n) (doublers a b) (decimal-printed n few) who.1),
-    )
-cube_text-brief (negsuc n) a b h = absurd (omega (arith, ints, h.0))
-
--- the cube of a board is brief
-cube-brief : (b : BoardFields) → Within 1048576 (field_of b 38) → IsBrief (cube b)
-unfolding cube
-cube-brief b h = cube_text-brief (field_of b 38) (is_one b 39) (is_one b 40) h
-
--- whose turn it is is told briefly
-turn_text-brief : (none own : Bool)
-    → IsBrief (cond none (codes "nobody's turn") (cond own (codes "your turn") (codes "the opponent's turn")))
-turn_text-brief true own = (lit≤ tt, refl)
-turn_text-brief false true = (lit≤ tt, refl)
-turn_text-brief false false = (lit≤ tt, refl)
-
--- whose turn it is on a board is told briefly
-turn_words-brief : (t c : ℤ) → IsBrief (turn_words t c)
-turn_words-brief t c = turn_text-brief (int_eq t (pos 0)) (int_eq t c)
-
--- a score is brief
-pub score-brief : (z : ℤ) → Within 99999999 z → IsBrief (score z)
-unfolding score
-score-brief z h = number-brief (codes "  score ") 99999999 z (lit≤ tt) refl (lit< tt) h
-
--- how many checkers are off is brief
-pub off-brief : (z : ℤ) → Within 15 z → IsBrief (off z)
-unfolding off
-off-brief z h = number-brief (codes "  off   ") 15 z (lit≤ tt) refl (lit< tt) h
-
--- how far the checkers have to go is brief
-pub pips-brief : (n : ℕ) → n < 2 ^ 64 → IsBrief (pips n)
-pips-brief n h = labelled-brief (codes "  pips  ") n (lit≤ tt) refl h
-
--- what can be done fits a line
-deed-fits : (p : Phase) (accepts doubles : Bool) → Fits (codes " " ++ deed p accepts doubles)
-deed-fits phase.Over accepts doubles = (lit≤ tt, refl)
-deed-fits phase.AnswerDouble true doubles = (lit≤ tt, refl)
-deed-fits phase.AnswerDouble false doubles = (lit≤ tt, refl)
-deed-fits phase.OpponentActs accepts doubles = (lit≤ tt, refl)
-deed-fits phase.RollOrDouble accepts true = (lit≤ tt, refl)
-deed-fits phase.RollOrDouble accepts false = (lit≤ tt, refl)
-deed-fits phase.Move accepts doubles = (lit≤ tt, refl)
-deed-fits phase.Passing accepts doubles = (lit≤ tt, refl)
-
--- what can be done in a position fits a line
-deed_in-fits : (p : PositionValue) → Fits (codes " " ++ deed_in p)
-unfolding deed_in
-deed_in-fits p = deed-fits (phase_in p) (may p accept) (may p double)
-
--- ---- the lines
-
--- 47 printed bytes with a brief text beside them fit a line
-pub beside : (a b : List ℕ) → length a ≡ 47 → printed a ≡ true → IsBrief b → Fits (a ++ b)
-beside a b wide h brief = (omega (arith, length-append a b, brief.0), printed-append a b h brief.1)
-
--- an edge with a brief text beside it fits a line
-pub at-edge : (p : PositionValue) (h : Half) (note : List ℕ) → IsBrief note → Fits (edge p h ++ note)
-at-edge p h note brief = beside (edge p h) note (length-edge p h) (edge-printed p h) brief
-
--- a height of a half with a brief text beside it fits a line
-pub at-layer : (p : PositionValue) (h : Half) (height : ℕ) (note : List ℕ) → IsFew p.standing.checkers → IsBrief note
-    → Fits (layer p h height ++ note)
-at-layer p h height note few brief =
-    beside (layer p h height) note (length-layer p h height) (layer-printed p h height few) brief
-
--- what is drawn and what is said, side by side
-abbrev pub joined : List (List ℕ × List ℕ) → List (List ℕ)
-joined lines = map (λ s. s.0 ++ s.1) lines
-
--- no place of a good board has more than 15 checkers
-few-checkers : (b : BoardFields) → IsGood b → IsFew (own_view b)
-few-checkers b good = record {
-  own = λ k. let few = own-few b good.own k in omega (arith, few);
-  other = λ k. let few = other-few b good.other k in omega (arith, few);
-}
-
--- the upper lines of a good board fit
-upper-fit : FieldRanges → (b : BoardFields) → IsGood b
-    → AllByRecursion Fits (joined (upper_lines b (position_of b)))
-unfolding upper_lines
-upper-fit f b good =
-    let r = ranges-of f b good.board in
-    let p = position_of b in
-    let few = few-checkers b good in (
-      at-edge p half.Upper _ (named-brief 88 b.opponent refl good.board.1),
-      (
-        at-layer p half.Upper 1 _ few (score-brief (field_of b 6) r.other_score),
-        (
-          at-layer p half.Upper 2 _ few (off-brief (field_of b 47) r.other_off_is),
-          (
-            at-layer p half.Upper 3 _ few (pips-brief (other_pips (own_view b)) (other-pips-few b good.other)),
-            (
-              at-layer p half.Upper 4 _ few (dice-brief (field_of b 36) (field_of b 37) r.die_3 r.die_4),
-              (
-                at-layer p half.Upper 5 _ few (match-brief (field_of b 4) r.length_of),
-                (beside middle (cube b) refl refl (cube-brief b r.cube_is), tt),
-              ),
-            ),
-          ),
-        ),
-      ),
-    )
-
--- the lower lines of a good board fit
-lower-fit : FieldRanges → (b : BoardFields) → IsGood b
-    → AllByRecursion Fits (joined (lower_lines b (position_of b)))
-unfolding lower_lines
-lower-fit f b good =
-    let r = ranges-of f b good.board in
-    let p = position_of b in
-    let few = few-checkers b good in (
-      at-layer p half.Lower 5 _ few (turn_words-brief (turn b) (colour b)),
-      (
-        at-layer p half.Lower 4 _ few (dice-brief (field_of b 34) (field_of b 35) r.die_1 r.die_2),
-        (
-          at-layer p half.Lower 3 _ few (pips-brief (own_pips (own_view b)) (own-pips-few b good.own)),
-          (
-            at-layer p half.Lower 2 _ few (off-brief (field_of b 46) r.own_off_is),
-            (
-              at-layer p half.Lower 1 _ few (score-brief (field_of b 5) r.own_score),
-              (
-                at-edge p half.Lower _ (named-brief 79 b.player refl good.board.0),
-                (deed_in-fits p, tt),
-              ),
-            ),
-          ),
-        ),
-      ),
-    )
-
--- two lists of lines that fit do so in a row
-all-append : (xs ys : List (List ℕ)) → AllByRecursion Fits xs → AllByRecursion Fits ys → AllByRecursion Fits (xs ++ ys)
-all-append [] ys h k = k
-all-append (x ∷ xs) ys h k = (h.0, all-append xs ys h.1 k)
-
--- a line is what is drawn and the words with one line end
-line-ended : (s : List ℕ × List ℕ) → line s ≡ ended (s.0 ++ s.1)
-unfolding line
-line-ended s = sym (append_assoc s.0 s.1 (10 ∷ []))
-
--- so are all lines
-pub lines-ended : (lines : List (List ℕ × List ℕ)) → flat_map line lines ≡ flat_map ended (joined lines)
-lines-ended [] = refl
-lines-ended (s ∷ lines) = rw (line-ended s, lines-ended lines) refl
-
--- a picture has 14 lines
-count : (b : BoardFields)
-    → length (joined (upper_lines b (position_of b)) ++ joined (lower_lines b (position_of b))) ≡ 14
-unfolding upper_lines lower_lines
-count b = refl
-
--- a picture is its lines, each with its end
-picture-ended : (b : BoardFields)
-    → picture b ≡ flat_map ended (joined (upper_lines b (position_of b)) ++ joined (lower_lines b (position_of b)))
-unfolding drawn
-picture-ended b =
-    rw (lines-ended (upper_lines b (position_of b)), lines-ended (lower_lines b (position_of b)))
-    (sym (flat_map-append ended (joined (upper_lines b (position_of b))) (joined (lower_lines b (position_of b)))))
-
--- the picture of a good board fits a terminal
-pub picture_fits : FieldRanges → PictureFits
-picture_fits f b good = (
-  joined (upper_lines b (position_of b)) ++ joined (lower_lines b (position_of b)),
-  count b,
-  all-append (joined (upper_lines b (position_of b))) (joined (lower_lines b (position_of b))) (upper-fit f b good)
-      (lower-fit f b good),
-  picture-ended b,
+-- one of two ways to go on
+split-fits : (columns column : ℕ) (row : List ℕ) (xs ys : List (List ℕ)) (full : Bool) → length row ≡ column
+    → column + 1 ≤ columns → columns ≤ 79 → printed row ≡ true
+    → AllByRecursion (Fits columns) xs → (full ≡ false → AllByRecursion (Fits columns) ys)
+    → AllByRecursion (Fits columns) (cond full ((row ++ 44 ∷ []) ∷ xs) ys)
+split-fits columns column row xs ys true l m most p h k = (
+  (
+    omega (arith, l, m, length-append row (44 ∷ [])),
+    omega (arith, l, m, most, length-append row (44 ∷ [])),
+    printed-append row (44 ∷ []) p refl,
+  ),
+  h,
 )
+split-fits columns column row xs ys false l m most p h k = k refl
+
+-- each of these rows fits
+lines-fit : (columns column : ℕ) (row : List ℕ) (facts : List (List ℕ)) → length row ≡ column → column + 1 ≤ columns
+    → 40 ≤ columns → columns ≤ 79 → printed row ≡ true → AllByRecursion IsBrief facts
+    → AllByRecursion (Fits columns) (lines_behind columns column row facts)
+unfolding lines_behind
+lines-fit columns column row [] l m least most p all = ((omega (arith, l, m), omega (arith, l, m, most), p), tt)
+lines-fit columns column row (fact ∷ facts) l m least most p all =
+    let brief = all.0 in
+    let next = row ++ (44 ∷ 32 ∷ fact) in
+    split-fits columns column row (lines_behind columns (length fact) fact facts)
+    (lines_behind columns (column + (2 + length fact)) next facts) (is_full columns column fact) l m most p
+    (lines-fit columns (length fact) fact facts refl (omega (arith, brief.0, least)) least most brief.1 all.1)
+    (λ h. lines-fit columns (column + (2 + length fact)) next facts
+    (omega (arith, l, length-append row (44 ∷ 32 ∷ fact))) (has-room columns column (length fact) h) least most
+    (printed-append row (44 ∷ 32 ∷ fact) p brief.1) all.1)
+
+-- ---- the groups
+
+-- a fact of a board is
+told-brief : FieldRanges → (look : Look) → HasLetters look → (watched : Bool) (b : BoardFields) → IsSeen b → (n : Note)
+    → IsBrief (told look watched b (position_of b) n)
+unfolding told
+told-brief f look h watched b s n =
+    let r = ranges-of f b s.board in
+    let words = note look watched b (position_of b) M.Plain n in
+    let most = note-width look watched b s r n in
+    (omega (arith, most, (room-is look.columns).1), row-printed words (note-row look h watched b s r n))
+
+-- all facts are
+all-brief : FieldRanges → (look : Look) → HasLetters look → (watched : Bool) (b : BoardFields) → IsSeen b
+    → (ns : List Note) → AllByRecursion IsBrief (map (told look watched b (position_of b)) ns)
+all-brief f look h watched b s [] = tt
+all-brief f look h watched b s (n ∷ ns) =
+    (told-brief f look h watched b s n, all-brief f look h watched b s ns)
+
+-- a text is rows that fit
+abbrev IsRows : ℕ → List ℕ → Type 0
+IsRows columns text = (lines : List (List ℕ)) × AllByRecursion (Fits columns) lines × (text ≡ flat_map ended lines)
+
+-- two lists of rows that fit
+all-append : (columns : ℕ) (xs ys : List (List ℕ)) → AllByRecursion (Fits columns) xs → AllByRecursion (Fits columns) ys
+    → AllByRecursion (Fits columns) (xs ++ ys)
+all-append columns [] ys h k = k
+all-append columns (x ∷ xs) ys h k = (h.0, all-append columns xs ys h.1 k)
+
+-- two texts of rows
+both : (columns : ℕ) (t u : List ℕ) → IsRows columns t → IsRows columns u → IsRows columns (t ++ u)
+both columns t u h k = (
+  h.0 ++ k.0,
+  all-append columns h.0 k.0 h.1 k.1,
+  ap (λ r. r ++ u) h.2 ∙ ap (λ r. flat_map ended h.0 ++ r) k.2 ∙ sym (flat_map-append ended h.0 k.0),
+)
+
+-- a group is
+group-fits : FieldRanges → (look : Look) → HasLetters look → (watched : Bool) (b : BoardFields) → IsSeen b
+    → 40 ≤ look.columns → look.columns ≤ 79 → (n : Note) (ns : List Note)
+    → IsRows look.columns (facts_from look.columns (told look watched b (position_of b) n)
+    (map (told look watched b (position_of b)) ns))
+group-fits f look h watched b s least most n ns =
+    let fact = told look watched b (position_of b) n in
+    let facts = map (told look watched b (position_of b)) ns in
+    let brief = told-brief f look h watched b s n in (
+      lines_behind look.columns (length fact) fact facts,
+      lines-fit look.columns (length fact) fact facts refl (omega (arith, brief.0, least)) least most brief.1
+          (all-brief f look h watched b s ns),
+      behind-ended look.columns (length fact) fact facts,
+    )
+
+-- so are all
+below-fits : FieldRanges → (look : Look) → HasLetters look → (watched : Bool) (b : BoardFields) → IsSeen b
+    → 40 ≤ look.columns → look.columns ≤ 79 → IsRows look.columns (words_below look watched b (position_of b))
+unfolding words_below
+below-fits f look h watched b s least most =
+    let p = position_of b in
+    let side : (x : Half) → IsRows look.columns (side_facts look watched b p x) = λ x.
+    group-fits f look h watched b s least most (T.Name x) (T.Score x ∷ T.Off x ∷ T.Pips x ∷ T.Dice x ∷ []) in
+    let m = group-fits f look h watched b s least most T.Length (T.Cube ∷ T.Turn ∷ []) in
+    both look.columns (side_facts look watched b p (above look.is_turned))
+    (match_facts look watched b p ++ side_facts look watched b p (under look.is_turned)) (side (above look.is_turned))
+    (both look.columns (match_facts look watched b p) (side_facts look watched b p (under look.is_turned)) m
+    (side (under look.is_turned)))
+
+-- if they stand there
+lower-fits : FieldRanges → (look : Look) → HasLetters look → (watched : Bool) (b : BoardFields) → IsSeen b
+    → 40 ≤ look.columns → (low : Bool) → is_below look.columns ≡ low
+    → IsRows look.columns (cond low (words_below look watched b (position_of b)) [])
+lower-fits f look h watched b s least true k =
+    let most : look.columns < 72 = grind (arith, nat_tests) in below-fits f look h watched b s least (omega
+    (arith, most))
+lower-fits f look h watched b s least false k = ([], tt, refl)
+
+-- ---- what can be done
+
+-- it is short
+deed-size : (p : Phase) (accepts doubles : Bool)
+    → (length (32 ∷ deed p accepts doubles) ≤ 46) × (printed (32 ∷ deed p accepts doubles) ≡ true)
+deed-size phase.Over accepts doubles = (lit≤ tt, refl)
+deed-size phase.AnswerDouble true doubles = (lit≤ tt, refl)
+deed-size phase.AnswerDouble false doubles = (lit≤ tt, refl)
+deed-size phase.OpponentActs accepts doubles = (lit≤ tt, refl)
+deed-size phase.RollOrDouble accepts true = (lit≤ tt, refl)
+deed-size phase.RollOrDouble accepts false = (lit≤ tt, refl)
+deed-size phase.Move accepts doubles = (lit≤ tt, refl)
+deed-size phase.Passing accepts doubles = (lit≤ tt, refl)
+
+-- that one can't move is shorter
+passing-size : (p : Phase) (accepts doubles : Bool) → is_passing p ≡ true → length (32 ∷ deed p accepts doubles) ≤ 40
+passing-size phase.Over accepts doubles h = cc
+passing-size phase.AnswerDouble accepts doubles h = cc
+passing-size phase.OpponentActs accepts doubles h = cc
+passing-size phase.RollOrDouble accepts doubles h = cc
+passing-size phase.Move accepts doubles h = cc
+passing-size phase.Passing accepts doubles h = lit≤ tt
+
+-- it is there if there is room, or one can't move
+why-there : (watched room passing : Bool) → (not watched && (room || passing)) ≡ true → (room ≡ true) ⊎ (passing ≡ true)
+why-there true room passing h = cc
+why-there false true passing h = inl refl
+why-there false false passing h = inr h
+
+-- there is room only on a wide terminal
+wanted-wide : (wanted : Bool) (columns : ℕ) → (wanted && nat_le 79 columns) ≡ true → 79 ≤ columns
+wanted-wide true columns h = grind (arith, nat_tests)
+wanted-wide false columns h = cc
+
+-- so it fits
+deed-fits : (columns : ℕ) (wanted : Bool) (p : Phase) (accepts doubles : Bool) → 40 ≤ columns
+    → ((wanted && nat_le 79 columns) ≡ true) ⊎ (is_passing p ≡ true) → Fits columns (32 ∷ deed p accepts doubles)
+deed-fits columns wanted p accepts doubles least (inl h) =
+    let size = deed-size p accepts doubles in
+    let wide = wanted-wide wanted columns h in
+    (omega (arith, wide, size.0), omega (arith, size.0), size.1)
+deed-fits columns wanted p accepts doubles least (inr h) =
+    let size = deed-size p accepts doubles in
+    let short = passing-size p accepts doubles h in
+    (omega (arith, least, short), omega (arith, size.0), size.1)
+
+-- the row fits, if it is there
+deed_row-fits : (look : Look) (watched wanted : Bool) (p : PositionValue) (there : Bool) → 40 ≤ look.columns
+    → has_deed look watched wanted (phase_in p) ≡ there
+    → IsRows look.columns (cond there (32 ∷ (deed_in p ++ 10 ∷ [])) [])
+unfolding deed_in
+deed_row-fits look watched wanted p true least h =
+    let text = deed (phase_in p) (may p accept) (may p double) in (
+      (32 ∷ text) ∷ [],
+      (
+        deed-fits look.columns wanted (phase_in p) (may p accept) (may p double) least
+            (why-there watched (wanted && nat_le 79 look.columns) (is_passing (phase_in p)) h),
+        tt,
+      ),
+      sym (append-nil (32 ∷ (text ++ 10 ∷ []))),
+    )
+deed_row-fits look watched wanted p false least h = ([], tt, refl)
+
+-- ---- the picture
+
+-- from 40 columns on
+pub picture-fits : FieldRanges → PictureFits
+unfolding seen_picture deed_row
+picture-fits f look watched wanted b h s least =
+    let p = position_of b in
+    both look.columns (flat_map (seen_beside look watched b) (rows_of look.is_turned))
+    (lower_words look watched b p ++ deed_row look watched wanted p) (
+      map (row_text look watched b) (rows_of look.is_turned),
+      rows-fit f look h watched b s least
+          (rows_of look.is_turned),
+      rows-ended look watched b (rows_of look.is_turned),
+    )
+    (both look.columns (lower_words look watched b p) (deed_row look watched wanted p)
+    (lower-fits f look h watched b s least (is_below look.columns) refl)
+    (deed_row-fits look watched wanted p (has_deed look watched wanted (phase_in p)) least refl))

@@ -9,7 +9,7 @@ use Rattle.fibs_fields.specs.FieldReading.{natural}
 use Rattle.fibs_position.specs.OwnView.{checkers_of, stand_on, colour, place_field}
 use Rattle.fibs_position.specs.declared.direction.Direction.{Direction}
 use Rattle.fibs_position.specs.declared.direction.Direction.TheVariants.{Down, Up}
-use Rattle.fibs_picture.proofs.PictureLemmas.Columns.{OneSide}
+use Rattle.fibs_picture.proofs.PictureLemmas.Reading.{OneSide}
 
 -- a number of at most fifteen either way, and its opposite: one of them is no count
 split : (z : ℤ) → negsuc 14 ≤ℤ z → z ≤ℤ pos 15 → OneSide (natural z) (natural (neg_ℤ z))

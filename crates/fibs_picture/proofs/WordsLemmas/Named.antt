@@ -12,7 +12,8 @@ use Rattle.fibs_position.specs.declared.phase.Phase.{Phase}
 use Rattle.fibs_position.specs.declared.phase.Phase.TheVariants as phase
 use Rattle.fibs_picture.specs.Picture.{is_one}
 use Rattle.fibs_picture.proofs.PictureLemmas.Parts.{lacks, lacks-append, ends-tell}
-use Rattle.fibs_picture.proofs.PictureLemmas.Notes.{Within, number-tells, number-lacks, digit-plain, is-zero}
+use Rattle.fibs_picture.proofs.PictureLemmas.Notes.{number-lacks, digit-plain, is-zero}
+use Rattle.fibs_picture.proofs.PictureLemmas.Ranges.{Within, number-tells}
 use Rattle.fibs_picture.specs.InWords.Words.{pair}
 use Rattle.fibs_picture.specs.InWords.Watched.{against_row, offered_said, turn_named, dice_said, dice_named, owner_said, cube_named, way_said}
 use Rattle.fibs_picture.proofs.WordsLemmas.Rows.{less}

@@ -14,7 +14,8 @@ use Rattle.fibs_picture.specs.Fits.{ended}
 use Rattle.fibs_picture.specs.Picture.{cube, is_one, match_length}
 use Rattle.fibs_picture.specs.Told.{Whose, nobodys, the_players, the_opponents}
 use Rattle.fibs_picture.proofs.PictureLemmas.Parts.{lacks, lacks-append, ends-tell}
-use Rattle.fibs_picture.proofs.PictureLemmas.Notes.{Within, number-tells, number-lacks, match-lacks, match-tells, cube-lacks, cube-tells, digit-plain, is-zero}
+use Rattle.fibs_picture.proofs.PictureLemmas.Notes.{number-lacks, match-lacks, match-tells, cube-lacks, cube-tells, digit-plain, is-zero}
+use Rattle.fibs_picture.proofs.PictureLemmas.Ranges.{Within, number-tells}
 use Rattle.fibs_picture.specs.InWords.Words.{whose, turn_said, phase_said, turn_row, pair, dice_row, score_row, cube_shows, cube_row, direction_row}
 
 -- ---- rows are known from each other

@@ -20,7 +20,7 @@ use Rattle.fibs_picture.specs.Picture.{own_pips, other_pips}
 use Rattle.fibs_picture.specs.Told.{SameToTheEye}
 use Rattle.fibs_picture.proofs.PictureLemmas.Parts.{lacks}
 use Rattle.fibs_picture.proofs.PictureLemmas.Notes.{flag-tells, all-mono, natural-tells}
-use Rattle.fibs_picture.proofs.PictureLemmas.Told.{Ranges, ranges-of, own-few, other-few, own-pips-few, other-pips-few, pair-same, four-same}
+use Rattle.fibs_picture.proofs.PictureLemmas.Ranges.{Ranges, ranges-of, own-few, other-few, own-pips-few, other-pips-few, pair-same, four-same}
 use Rattle.fibs_picture.specs.InWords.Told.{WordsTell}
 use Rattle.fibs_picture.specs.InWords.Words.{whose, turn_row, dice_row, score_row, cube_row, direction_row, count_on, side_row, held_row, game_rows, checkers_rows, told, words}
 use Rattle.fibs_picture.specs.declared.in_words.side.Side.TheVariants as side

@@ -19,9 +19,8 @@ use Rattle.fibs_picture.specs.Picture.{own_pips, other_pips}
 use Rattle.fibs_picture.specs.Told.{Whose, nobodys, the_players, the_opponents, whose_turn}
 use Rattle.fibs_picture.specs.WatchedTold.{SameToTheWatcher}
 use Rattle.fibs_picture.proofs.PictureLemmas.Parts.{lacks}
-use Rattle.fibs_picture.proofs.PictureLemmas.Notes.{flag-tells, natural-tells}
-use Rattle.fibs_picture.proofs.PictureLemmas.Told.{Ranges, ranges-of, own-few, other-few, own-pips-few, other-pips-few, pair-same, four-same}
-use Rattle.fibs_picture.proofs.PictureLemmas.Watched.{front-lacks}
+use Rattle.fibs_picture.proofs.PictureLemmas.Notes.{flag-tells, natural-tells, front-lacks}
+use Rattle.fibs_picture.proofs.PictureLemmas.Ranges.{Ranges, ranges-of, own-few, other-few, own-pips-few, other-pips-few, pair-same, four-same}
 use Rattle.fibs_picture.specs.InWords.Words.{score_row, count_on, side_row}
 use Rattle.fibs_picture.specs.InWords.Watched.{against_row, is_others, turn_named, dice_said, dice_named, cube_named, way_said, held_named, named_game_rows, named_checkers_rows, named_told, watched_words}
 use Rattle.fibs_picture.specs.InWords.WatchedTold.{WatchedWordsTell}

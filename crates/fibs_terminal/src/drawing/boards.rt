@@ -4,13 +4,14 @@ ghost use Rattle.fibs_fields.specs.StoredBoard.{fields_of};
 ghost use Rattle.fibs_terminal.specs.Tables.{no_boards, none_drawn};
 
 use crate::drawing::outcomes::append_outcome;
-use crate::drawing::picture::{NO_ARRIVALS, append_marked, arrivals_since};
+use crate::drawing::picture::{append_marked, arrivals_since};
 use fibs_advice::situation::is_same;
 use fibs_fields::boards::Board;
 use fibs_fields::boards::fields::{
     FIRST_DIE, FIRST_PLACE, LAST_PLACE, OTHER_FIRST_DIE, OTHER_OFF, OTHER_SECOND_DIE, OWN_OFF,
     SECOND_DIE,
 };
+use fibs_picture::NO_ARRIVALS;
 use fibs_position::{GameBoard, Phase};
 use fibs_wording::environment::Page;
 use fibs_wording::environment::pieces::{append_all, short_name};

@@ -1,12 +1,22 @@
 //! Laws of what a terminal draws and tells. Each function does nothing: its contract is the law.
-ghost use Rattle.fibs_terminal.specs.Drawings.{DrawingsTell, TellingsTell};
-ghost use Rattle.fibs_terminal.specs.WatchedDrawings.{WatchedDrawingsTell, WatchedTellingsTell};
+ghost use Rattle.fibs_terminal.specs.Drawings.{DrawingsFit, DrawingsTell, TellingsTell};
+ghost use Rattle.fibs_terminal.specs.WatchedDrawings.{WatchedTellingsTell};
 
-/// Boards with the same drawing, each with a position, look the same (`SameToTheEye`).
+/// Boards whose drawings the eye sees alike look the same (`SameOnScreen`), on every terminal: boards of the user's
+/// games, and boards that he watches.
 pub fn drawings_tell()
     ensures { DrawingsTell }
 {
     fibs_picture::laws::picture_tells();
+    fibs_picture::laws::picture_seen();
+}
+
+/// From 40 columns on the eye sees of a drawing rows that fit the terminal.
+pub fn drawings_fit()
+    ensures { DrawingsFit }
+{
+    fibs_picture::laws::picture_fits();
+    fibs_picture::laws::picture_seen();
 }
 
 /// Boards that are told in the same words, each with a position, look the same.
@@ -16,11 +26,9 @@ pub fn tellings_tell()
     fibs_picture::in_words::laws::words_tell();
 }
 
-/// Watched boards with the same drawing, or told in the same words, look the same (`SameToTheWatcher`).
+/// Watched boards that are told in the same words look the same (`SameToTheWatcher`).
 pub fn watched_tell()
-    ensures drawn { WatchedDrawingsTell }
-    ensures told { WatchedTellingsTell }
+    ensures { WatchedTellingsTell }
 {
-    fibs_picture::laws::watched_picture_tells();
     fibs_picture::in_words::laws::watched_words_tell();
 }

@@ -202,7 +202,7 @@ fn lines_of_the_server_are_shown() {
     assert_scenes(plain_settings(), &HEARD);
 }
 
-/// Rows of a picture of 60 columns, in bold: dice of the player's, his checkers, and the cube.
+/// Rows of a picture of 72 columns, in bold: dice of the player's, his checkers, and the cube.
 static BOLD_ROWS: [&str; 3] = [
     " | X                |   | \x1b[1mO\x1b[0m                |     dice  \x1b[1m6\x1b[0m \x1b[1m2\x1b[0m\n",
     " | X           \x1b[1mO\x1b[0m    |   | \x1b[1mO\x1b[0m              X |     score 0\n",
@@ -214,7 +214,7 @@ static TO_MOVE_STEPS: [Cue<'static>; 2] = [Cue::Hears(WELCOME), Cue::Hears(TO_MO
 
 #[test]
 fn what_is_the_players_is_bold() {
-    let settings = Settings { columns: 60, ..colour_settings() };
+    let settings = Settings { columns: 72, ..colour_settings() };
     assert_has(settings, &TO_MOVE_STEPS, &BOLD_ROWS);
 }
 
@@ -225,13 +225,13 @@ const NOBODY_DOUBLES: &[u8] =
 /// The columns of a terminal, and the row of the cube there.
 static CUBE_ROWS: [(usize, &str); 4] = [
     (80, " |                  |BAR|                  |   cube 1, no doubling\n"),
-    (66, " |                  |BAR|                  |   cube 1, no doubling\n"),
-    (65, " |                  |BAR|                  |   cube 1, dead\n"),
-    (60, " |                  |BAR|                  |   cube 1, dead\n"),
+    (72, " |                  |BAR|                  |   cube 1, no doubling\n"),
+    (71, "match to 1, cube 1, no doubling, your turn\n"),
+    (40, "match to 1, cube 1, no doubling,\nyour turn\n"),
 ];
 
 #[test]
-fn no_word_beside_the_board_is_cut() {
+fn no_word_of_a_picture_is_cut() {
     for (columns, row) in &CUBE_ROWS {
         let settings = Settings { columns: *columns, ..colour_settings() };
         assert_has(settings, &[Cue::Hears(WELCOME), Cue::Hears(NOBODY_DOUBLES)], &[row]);

@@ -2,22 +2,31 @@
 //! picture says can be done.
 
 use crate::fibs_fields::boards::Board;
-use crate::fibs_picture::{MOST_SEEN, draw, place_at};
+use crate::fibs_picture::{Look, NO_ARRIVALS, Numbers, append_game};
 use crate::fibs_position::GameBoard;
-use crate::rattle::alloc::AllocError;
-use crate::rattle::io;
-use crate::rattle::io::Write;
-use crate::rattle::may::*;
 
-/// Draws a board line; nothing of one that has no position.
-fn draw_line<W: Write>(line: &[u8], out: &mut W) -> io::Result<()> {
-    match Board::read(line) {
-        Ok(board) => match GameBoard::of(&board) {
-            Ok(game) => draw(&game, out),
-            Err(_) => Ok(()),
-        },
-        Err(_) => Ok(()),
-    }
+/// How a terminal of 80 columns draws that shows nothing in bold.
+pub const PLAIN: Look = Look {
+    own: b'O',
+    other: b'X',
+    numbers: Numbers::TheServers,
+    is_turned: false,
+    is_marked: false,
+    is_long: true,
+    columns: 80,
+};
+
+/// The game of a board line.
+fn game_of(line: &[u8]) -> GameBoard {
+    let board = Board::read(line).expect("it is a board");
+    GameBoard::of(&board).expect("the user plays in its game")
+}
+
+/// What is drawn of a board line, with what can be done.
+fn drawn(line: &[u8], look: &Look) -> String {
+    let mut text = Vec::new();
+    append_game(look, &game_of(line), &NO_ARRIVALS, true, &mut text).expect("there is memory");
+    String::from_utf8(text).expect("it is ASCII")
 }
 
 /// A board, and the lines of its picture.
@@ -130,65 +139,48 @@ static PICTURES: [Picture; 5] = [
     },
 ];
 
-/// Lines, each with its end.
-fn ended(lines: &[&[u8]]) -> Result<Vec<u8>, AllocError> {
-    let mut text = Vec::new();
-    for line in lines {
-        text.may_extend_from_slice(line)?;
-        text.may_push(b'\n')?;
-    }
-    Ok(text)
-}
-
 #[test]
-fn boards_are_drawn() -> Result<(), Box<dyn std::error::Error>> {
+fn boards_are_drawn() {
     for picture in &PICTURES {
-        let mut drawn = Vec::new();
-        draw_line(picture.board, &mut drawn)?;
-        let wanted = ended(&picture.lines)?;
-        assert_eq!(drawn.as_slice(), wanted.as_slice(), "{}", picture.name);
+        let lines = drawn(picture.board, &PLAIN);
+        let wanted: Vec<&[u8]> = picture.lines.to_vec();
+        let found: Vec<&[u8]> = lines.lines().map(str::as_bytes).collect();
+        assert_eq!(found, wanted, "{}", picture.name);
     }
-    Ok(())
 }
 
-/// If there is room for less than a picture, a front of it is written, and the drawing fails.
+/// What was in the text before the picture stays there.
 #[test]
-fn a_write_that_fails_ends_the_drawing() -> Result<(), Box<dyn std::error::Error>> {
-    let wanted = ended(&PICTURES[0].lines)?;
-    for room in 0..wanted.len() {
-        let mut held = [0; 1024];
-        let mut out = &mut held[..room.min(1024)];
-        assert!(draw_line(PICTURES[0].board, &mut out).is_err(), "room for {room}");
-        assert_eq!(&held[..room.min(1024)], &wanted[..room], "room for {room}");
-    }
-    Ok(())
+fn a_picture_is_appended() {
+    let mut text = b"before".to_vec();
+    let game = game_of(PICTURES[0].board);
+    append_game(&PLAIN, &game, &NO_ARRIVALS, true, &mut text).expect("there is memory");
+    assert_eq!(text, format!("before{}", drawn(PICTURES[0].board, &PLAIN)).into_bytes());
 }
 
 /// How many letters are drawn of so many checkers: for more than five there is a number in place of the fifth.
 fn letters(count: u8) -> usize {
-    if count > MOST_SEEN { usize::from(MOST_SEEN) - 1 } else { usize::from(count) }
+    if count > 5 { 4 } else { usize::from(count) }
+}
+
+/// The column of the checkers of a place, and the first of its five rows. Those of the player's home are below, at the
+/// right.
+fn where_is(place: u8) -> (usize, usize) {
+    let (from_left, row) = if place > 12 { (place - 13, 1) } else { (12 - place, 7) };
+    let column = 3 + 3 * usize::from(from_left);
+    (if from_left < 6 { column } else { column + 5 }, row)
 }
 
 /// How many letters of checkers are where a place is.
 fn letters_at(place: u8, lines: &[&[u8]]) -> usize {
-    let mut found = 0usize;
-    for row in 0..lines.len() {
-        let line = lines[row];
-        for column in 0..line.len() {
-            let is_letter = line[column] == b'O' || line[column] == b'X';
-            if is_letter && place_at(row, column) == place {
-                found = found.saturating_add(1);
-            }
-        }
-    }
-    found
+    let (column, first) = where_is(place);
+    lines[first..first + 5].iter().filter(|line| matches!(line[column], b'O' | b'X')).count()
 }
 
 #[test]
 fn a_place_is_where_its_checkers_are_drawn() {
     for picture in &PICTURES {
-        let board = Board::read(picture.board).expect("it is a board");
-        let game = GameBoard::of(&board).expect("the user plays in its game");
+        let game = game_of(picture.board);
         for place in 1..25u8 {
             let count = game.position().own(place).max(game.position().other(place));
             let found = letters_at(place, &picture.lines);
@@ -248,11 +240,140 @@ static DEEDS: [Deed; 8] = [
 ];
 
 #[test]
-fn what_can_be_done_is_said() -> Result<(), Box<dyn std::error::Error>> {
+fn what_can_be_done_is_said() {
     for deed in &DEEDS {
-        let mut drawn = Vec::new();
-        draw_line(deed.board, &mut drawn)?;
-        assert!(drawn.ends_with(deed.said), "{}", deed.name);
+        assert!(drawn(deed.board, &PLAIN).as_bytes().ends_with(deed.said), "{}", deed.name);
     }
-    Ok(())
+}
+
+/// A look, and the picture of the first board above. Below the least columns of the words beside the board they stand
+/// below it; the outer walls are left out where the whole board is too wide.
+struct Looks {
+    look: Look,
+    picture: &'static str,
+}
+
+static LOOKS: [Looks; 4] = [
+    Looks {
+        look: Look { columns: 40, is_long: false, ..PLAIN },
+        picture: "13-14-15-16-17-18-+---19-20-21-22-23-24-
+ O           X    |    X              O 
+ O           X    |    X              O 
+ O           X    |    X                
+ O                |    X                
+ O                |    X                
+                  |BAR                  
+ X                |    O                
+ X                |    O                
+ X           O    |    O                
+ X           O    |    O              X 
+ X           O    |    O              X 
+12-11-10--9--8--7-+----6--5--4--3--2--1-
+X someplayer, score 1, off 0, pips 167,
+dice -
+match to 3, cube 1, free, your turn
+O You, score 0, off 0, pips 167,
+dice 6 2
+",
+    },
+    Looks {
+        look: Look { columns: 71, is_long: false, is_turned: true, own: b'@', other: b'o', ..PLAIN },
+        picture: " +12-11-10--9--8--7-+---+-6--5--4--3--2--1-+
+ | o           @    |   | @              o |
+ | o           @    |   | @              o |
+ | o           @    |   | @                |
+ | o                |   | @                |
+ | o                |   | @                |
+ |                  |BAR|                  |
+ | @                |   | o                |
+ | @                |   | o                |
+ | @           o    |   | o                |
+ | @           o    |   | o              @ |
+ | @           o    |   | o              @ |
+ +13-14-15-16-17-18-+---+19-20-21-22-23-24-+
+@ You, score 0, off 0, pips 167, dice 6 2
+match to 3, cube 1, free, your turn
+o someplayer, score 1, off 0, pips 167, dice -
+",
+    },
+    Looks {
+        look: Look { columns: 72, is_long: false, is_marked: true, ..PLAIN },
+        picture: " +13-14-15-16-17-18-+---+19-20-21-22-23-24-+   X someplayer
+ | [1mO[0m           X    |   | X              [1mO[0m |     score 1
+ | [1mO[0m           X    |   | X              [1mO[0m |     off   0
+ | [1mO[0m           X    |   | X                |     pips  167
+ | [1mO[0m                |   | X                |     dice  -
+ | [1mO[0m                |   | X                |   match to 3
+ |                  |BAR|                  |   cube 1, free
+ | X                |   | [1mO[0m                |   your turn
+ | X                |   | [1mO[0m                |     dice  [1m6[0m [1m2[0m
+ | X           [1mO[0m    |   | [1mO[0m                |     pips  167
+ | X           [1mO[0m    |   | [1mO[0m              X |     off   0
+ | X           [1mO[0m    |   | [1mO[0m              X |     score 0
+ +12-11-10--9--8--7-+---+-6--5--4--3--2--1-+   O You
+",
+    },
+    Looks {
+        look: Look { numbers: Numbers::TheOwn, ..PLAIN },
+        picture: " +13-14-15-16-17-18-+---+19-20-21-22-23-24-+   X someplayer
+ | O           X    |   | X              O |     score 1
+ | O           X    |   | X              O |     off   0
+ | O           X    |   | X                |     pips  167
+ | O                |   | X                |     dice  -
+ | O                |   | X                |   match to 3
+ |                  |BAR|                  |   cube 1, in the middle
+ | X                |   | O                |   your turn
+ | X                |   | O                |     dice  6 2
+ | X           O    |   | O                |     pips  167
+ | X           O    |   | O              X |     off   0
+ | X           O    |   | O              X |     score 0
+ +12-11-10--9--8--7-+---+-6--5--4--3--2--1-+   O You
+ You move, or resign.
+",
+    },
+];
+
+#[test]
+fn a_board_is_drawn_for_each_terminal() {
+    for case in &LOOKS {
+        assert_eq!(drawn(PICTURES[0].board, &case.look), case.picture, "{:?}", case.look);
+    }
+}
+
+/// A player who goes up by the server's numbers has his own from 24 down to 1 at the edges; nothing else differs.
+#[test]
+fn ones_own_numbers_go_down() {
+    let own = drawn(PICTURES[1].board, &Look { numbers: Numbers::TheOwn, ..PLAIN });
+    let servers = drawn(PICTURES[1].board, &PLAIN);
+    let rows: Vec<&str> = own.lines().collect();
+    assert_eq!(&rows[0][..44], " +13-14-15-16-17-18-+---+19-20-21-22-23-24-+");
+    assert_eq!(&rows[12][..44], " +12-11-10--9--8--7-+---+-6--5--4--3--2--1-+");
+    let others: Vec<&str> = servers.lines().collect();
+    assert_eq!(rows[1..12], others[1..12]);
+}
+
+/// What tells two boards apart, the columns, and for each board the opponent, the score, the turn and the cube.
+type Pair = (&'static str, usize, [[&'static str; 4]; 2]);
+
+/// Pairs of boards whose pictures were once the same: words were cut, or a name was taken for a word.
+static PAIRS: [Pair; 4] = [
+    ("nobody has the turn, or one who is called so", 80, [["nobody", "1", "0", "1:0:0"], ["nobody", "1", "-1", "1:0:0"]]),
+    ("a score of eight digits", 60, [["bob", "12345678", "1", "1:1:1"], ["bob", "12345679", "1", "1:1:1"]]),
+    ("a cube that nobody may turn, or `dead` may", 60, [["dead", "1", "1", "128:0:0"], ["dead", "1", "1", "128:0:1"]]),
+    ("a cube that both may turn, or `fred` may", 60, [["fred", "1", "1", "1024:1:1"], ["fred", "1", "1", "1024:0:1"]]),
+];
+
+#[test]
+fn boards_that_differ_are_drawn_otherwise() {
+    for (what, columns, boards) in &PAIRS {
+        let look = Look { columns: *columns, is_long: false, ..PLAIN };
+        let [one, other] = boards.map(|[opponent, score, turn, cube]| {
+            let line = format!(
+                "board:You:{opponent}:3:{score}:1:0:-2:0:0:0:0:5:0:3:0:0:0:-5:5:0:0:0:-3:0:-5:0:0:0:0:2:0:\
+                 {turn}:0:0:0:0:{cube}:0:1:-1:0:25:0:0:0:0:0:0:0:0"
+            );
+            drawn(line.as_bytes(), &look)
+        });
+        assert_ne!(one, other, "{what}");
+    }
 }

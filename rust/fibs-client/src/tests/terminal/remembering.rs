@@ -441,10 +441,12 @@ fn widest_row(text: &str) -> usize {
     widest
 }
 
-/// No row of a picture is wider than the terminal.
+/// No row of a picture is wider than the terminal: a name is as long as there is room.
 #[test]
-fn a_picture_is_cut_to_the_columns() {
-    let settings = Settings { columns: 60, ..plain_settings() };
-    let text = shown(settings, &FIRST_BOARD, &[Cue::Hears(LONG_NAME)]);
-    assert_wanted(widest_row(&text) == 60, &text, "60 columns");
+fn a_picture_fits_the_columns() {
+    for (columns, widest) in [(44, 44), (71, 44), (72, 72), (79, 79), (200, 79)] {
+        let settings = Settings { columns, ..plain_settings() };
+        let text = shown(settings, &FIRST_BOARD, &[Cue::Hears(LONG_NAME)]);
+        assert_wanted(widest_row(&text) == widest, &text, "rows that fit");
+    }
 }

@@ -1,10 +1,11 @@
 //! Boards that the user watches: their pictures, and the same in words, which were made by hand.
 
 use super::lines::{SETTINGS, WELCOME};
+use super::pictures::PLAIN;
 use super::seats::{Cue, assert_wanted, colour_settings, plain_settings};
 use crate::fibs_fields::boards::Board;
-use crate::fibs_picture::draw_watched;
 use crate::fibs_picture::in_words::tell_watched;
+use crate::fibs_picture::{NO_ARRIVALS, append_watched};
 use crate::fibs_position::{GameBoard, PositionFault, WatchedBoard};
 use crate::fibs_wording::environment::Settings;
 
@@ -164,7 +165,7 @@ fn shown(line: &str) -> (String, String) {
     let board = Board::read(line.as_bytes()).expect("it is a board");
     let watched = WatchedBoard::of(&board).expect("it is watched");
     let (mut drawn, mut told) = (Vec::new(), Vec::new());
-    draw_watched(&watched, &mut drawn).expect("there is memory");
+    append_watched(&PLAIN, &watched, &NO_ARRIVALS, &mut drawn).expect("there is memory");
     tell_watched(&watched, &mut told).expect("there is memory");
     (String::from_utf8(drawn).expect("ASCII"), String::from_utf8(told).expect("ASCII"))
 }
