@@ -110,8 +110,7 @@ is_passing phase.Move = false
 is_passing phase.Passing = true
 
 -- the row that says what can be done is there, of a game of the user's own: if it is wanted and there is room, and if
--- the
--- player can't move
+-- the player can't move
 abbrev pub has_deed : Look → Bool → Bool → Phase → Bool
 has_deed look watched wanted phase = not watched && ((wanted && nat_le 79 look.columns) || is_passing phase)
 
