@@ -5,9 +5,10 @@ use Rattle.std.proofs.lemmas.Bool.Decides.{nat_tests}
 use Rattle.fibs_lines.specs.Lines.{ReadLine}
 use Rattle.fibs_messages.specs.Message.{MessageValue}
 use Rattle.fibs_messages.specs.Line.{ReadingValue, numbered_line, board_line, text_line, malformed_line}
+use Rattle.fibs_game.specs.Game.{welcomes, informs}
 use Rattle.fibs_session.specs.History.Log.{Entry}
 use Rattle.fibs_session.specs.History.Words.{open_now}
-use Rattle.fibs_session.specs.History.Hearing.{Heard, heard, nothing_heard, line_reading}
+use Rattle.fibs_session.specs.History.Hearing.{Heard, heard, heard_says, nothing_heard, line_reading}
 use Rattle.fibs_session.specs.History.Machine.{Talk, is_online, gained, wire_of}
 use Rattle.fibs_engine.specs.Writing.{Progress, Whole, Broken}
 use Rattle.fibs_connect.specs.Turns.Acts.{Act}
@@ -16,6 +17,7 @@ use Rattle.fibs_connect.specs.Turns.Typing.{talk_after, typed_acts}
 use Rattle.fibs_session.specs.Typing.{typed_now}
 use Rattle.fibs_connect.specs.Turns.Script.{InHand, acts_of}
 use Rattle.fibs_connect.specs.Turns.NoteLaw.{TellsNothing, TurnsLeaveNoPlayer}
+use Rattle.fibs_session.proofs.History.Joins.{message_heard}
 use Rattle.fibs_connect.proofs.TurnLemmas.Typed.{typed_notes}
 
 -- an act that writes something has no message about players
@@ -45,7 +47,10 @@ numbered c log m some = one (nat_eq m.number 1) refl
   where
     two : nat_eq m.number 1 ≡ false → (b : Bool) → nat_eq m.number 2 ≡ b → TellsNothing m
     two e true f = unlike m.number 2 f refl refl
-    two e false f = absurd (some (none_sent (nat_eq m.number 1) (nat_eq m.number 2) _ _ e f))
+    two e false f =
+        absurd (some (ap (λ (h : Heard). h.send) (message_heard c log m)
+        ∙ none_sent (nat_eq m.number 1) (nat_eq m.number 2) (heard_says c log welcomes) (heard_says c log (informs m))
+        e f))
 
     one : (a : Bool) → nat_eq m.number 1 ≡ a → TellsNothing m
     one true e = unlike m.number 1 e refl refl
