@@ -419,6 +419,12 @@ fn a_score_is_of_its_own_match() {
     .concat();
     let text = shown_later(&left, &[Cue::Hears(b"7 carol carol logs in.\r\n")]);
     assert_wanted(text == "carol logs in.\n", &text, "no score");
+    let over = [
+        Cue::Hears(b"bob wins the 3 point match 3-0 .\r\n"),
+        Cue::Hears(b"carol drops connection. The game was saved.\r\n"),
+    ];
+    let text = shown_later(&[&FIRST_BOARD[..], &over].concat(), &[Cue::Hears(b"7 bob bob logs in.\r\n")]);
+    assert_wanted(text == "bob logs in.\n", &text, "no match that is over");
 }
 
 #[test]

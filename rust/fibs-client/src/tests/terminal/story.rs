@@ -109,8 +109,11 @@ fn the_oldest_turns_of_a_long_game_are_forgotten() {
     let before = *rolled(&first, [3, 1]).board();
     let play = any_play(&good(&before), &mut Chance(7));
     let after = effect(&before, &Decision::Move(play), [0, 0]).expect("a legal play");
-    let boards = [before, after].repeat(502);
+    let another = *rolled(&first, [6, 5]).board();
+    let gone = effect(&another, &Decision::Move(any_play(&good(&another), &mut Chance(7))), [0, 0]).expect("a play");
+    let boards = [[another, gone].repeat(2), [before, after].repeat(500)].concat();
     let rows = story_of(&boards, true);
+    assert!(!rows.contains("You roll 6 and 5:"), "{rows}");
     let turns: Vec<&str> = rows.lines().filter(|row| row.contains("You roll 3 and 1:")).collect();
     assert_eq!(turns.len(), 500, "{rows}");
     assert!(turns[0].starts_with("  3. ") && turns[499].starts_with("502. "), "{} and {}", turns[0], turns[499]);
