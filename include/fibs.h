@@ -156,7 +156,7 @@ enum {
     FIBS_STATUS_NO_EFFECT = 510,      /* the server does not carry the decision out on the board */
     FIBS_STATUS_NO_DIRECTION = 511,   /* the direction is neither -1 nor 1 */
     FIBS_STATUS_TAKEN = 512           /* the client takes the line itself: fibs_client_decide, fibs_client_plain or a
-                                         standing order */
+                                         standing order; or the line decides in the game */
 };
 
 /* The name of a status, such as `NotYours`, with a zero at its end; the empty text if there is no such status. */
@@ -467,9 +467,16 @@ fibs_status fibs_client_plain(fibs_client *client, const char *text, size_t len,
 
 /* Hands out a line of your own with its line end, for what the client has no command for: `leave`, `watch bob`, `who
  * ready`, `accept` or `reject` as the answer to an offer to resign. The client does not know of it, and is as it was.
- * It refuses a line that it would take itself. A decision that it would refuse it lets go: never send `roll`, `move` or
- * `double` so, or the client does not know what waits. BAD_TEXT, TOO_LONG; NO_HANDLE; OFFLINE, TAKEN. */
+ * It refuses a line that it would take itself, and each line that decides in the game, also while a decision waits: one
+ * that begins with `roll`, `move`, `double`, `redouble` or `resign`, with a shorter form of these words in any letters,
+ * or with a space; and an answer, if the board that is shown has a double to be answered. BAD_TEXT, TOO_LONG;
+ * NO_HANDLE; OFFLINE, TAKEN. */
 fibs_status fibs_client_own_line(fibs_client *client, const char *line, size_t len, fibs_wire *wire);
+
+/* The same of any line, also of one that decides: for a decision that waits since the server refused it by a text, and
+ * that the user makes once more. What the client promises, that no decision is sent twice, does not hold of such a line:
+ * the client does not know of it. BAD_TEXT, TOO_LONG; NO_HANDLE; OFFLINE. */
+fibs_status fibs_client_unguarded_line(fibs_client *client, const char *line, size_t len, fibs_wire *wire);
 
 /* Gives a standing order for this connection: at each new board on which the user is to roll and may not double the
  * client rolls by itself. NO_HANDLE; OFFLINE, ALREADY_ORDERED. */

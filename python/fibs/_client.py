@@ -192,10 +192,19 @@ class Client(Handle):
 
     def own_line(self, line: Text) -> bytes:
         """A line of your own with its line end, for what the client has no command for: `leave`, `watch bob`, the
-        answer to an offer to resign. The client does not know of it, and refuses a line that it would take itself.
-        Never send a `roll`, `move` or `double` so. Offline, Taken; BadText, TooLong."""
+        answer to an offer to resign. The client does not know of it, and refuses a line that it would take itself, and
+        each line that decides in the game. Offline, Taken; BadText, TooLong."""
         data = bytes_of(line)
         check(_library.lib.fibs_client_own_line(self._owned.at, data, len(data), byref(self._kept.wire())))
+        sent, self._kept = self._kept.commands(), self._kept._replace(wires=[_library.Wire()])
+        return sent
+
+    def unguarded_line(self, line: Text) -> bytes:
+        """Any line with its line end, also one that decides: for a decision that waits since the server refused it by
+        a text, and that the user makes once more. The client does not know of it, and what it promises does not hold
+        of it. Offline; BadText, TooLong."""
+        data = bytes_of(line)
+        check(_library.lib.fibs_client_unguarded_line(self._owned.at, data, len(data), byref(self._kept.wire())))
         sent, self._kept = self._kept.commands(), self._kept._replace(wires=[_library.Wire()])
         return sent
 

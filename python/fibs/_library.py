@@ -186,6 +186,7 @@ _FUNCTIONS: dict[str, tuple[Any, list[Any]]] = {
     'fibs_client_decide': (c_uint32, [_HANDLE, POINTER(Decision), POINTER(Wire)]),
     'fibs_client_plain': (c_uint32, [_HANDLE, *_DATA, POINTER(Wire)]),
     'fibs_client_own_line': (c_uint32, [_HANDLE, *_DATA, POINTER(Wire)]),
+    'fibs_client_unguarded_line': (c_uint32, [_HANDLE, *_DATA, POINTER(Wire)]),
     'fibs_client_order_roll': (c_uint32, [_HANDLE]),
     'fibs_client_withdraw_roll': (c_uint32, [_HANDLE]),
     'fibs_client_ordered': (c_uint32, [_HANDLE, POINTER(c_uint8)]),

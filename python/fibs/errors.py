@@ -227,7 +227,7 @@ class NoDirection(Error, ValueError):
 
 
 class Taken(Error, ValueError):
-    """The client takes the line itself: decide(), plain() or order_roll()."""
+    """The client takes the line itself, by decide(), plain() or order_roll(), or the line decides in the game."""
     status = 512
 
 

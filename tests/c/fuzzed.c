@@ -448,6 +448,10 @@ static void call_client(uint8_t which) {
         answered(status, WIRE);
         is_wire(status);
         must(status != FIBS_STATUS_DONE || out.wire.len == piece.len + 2, "an own line");
+        status = fibs_client_unguarded_line(&held.client, piece.bytes, piece.len, &out.wire);
+        answered(status, WIRE);
+        is_wire(status);
+        must(status != FIBS_STATUS_DONE || out.wire.len == piece.len + 2, "an unguarded line");
         break;
     case 14:
         is_text(fibs_client_shown_line(&held.client, text, room, &out.size), text, room, FIBS_MAX_BOARD);

@@ -289,7 +289,10 @@ static void check_own_lines(fibs_client *client) {
         { "", S(BAD_TEXT) }, { "a\nb", S(BAD_TEXT) }, { "leave\r", S(BAD_TEXT) }, { "\377\373\1", S(BAD_TEXT) },
         { "\177", S(BAD_TEXT) }, { "who", S(TAKEN) }, { "tell bob hi", S(TAKEN) }, { "order roll", S(TAKEN) },
         { "withdraw roll", S(TAKEN) }, { "leave", S(DONE) }, { "who ready", S(DONE) }, { "accept", S(DONE) },
-        { "roll", S(DONE) }
+        { "roll", S(TAKEN) }, { "r", S(TAKEN) }, { "ROLL", S(TAKEN) }, { "rolls", S(DONE) }, { "roll 2", S(TAKEN) },
+        { " roll", S(TAKEN) }, { " leave", S(TAKEN) }, { "move 24-23", S(TAKEN) }, { "m 24 23", S(TAKEN) },
+        { "moves", S(DONE) }, { "double", S(TAKEN) }, { "Doub", S(TAKEN) }, { "redouble", S(TAKEN) },
+        { "resign g", S(TAKEN) }, { "res n", S(TAKEN) }, { "rejoin", S(DONE) }, { "dicetest", S(DONE) }
     };
     for (size_t i = 0; i < sizeof lines / sizeof lines[0]; i++) {
         size_t len = strlen(lines[i].line);
@@ -314,6 +317,8 @@ static void check_client(void) {
         all_refused(&client, S(NO_HANDLE));
         sends("plain of none", S(NO_HANDLE), fibs_client_plain(&client, T("who"), &out.wire), NOTHING);
         sends("own line of none", S(NO_HANDLE), fibs_client_own_line(&client, T("leave"), &out.wire), NOTHING);
+        sends("unguarded line of none", S(NO_HANDLE),
+              fibs_client_unguarded_line(&client, T("leave"), &out.wire), NOTHING);
         sends("no own line", S(BAD_TEXT), fibs_client_own_line(&client, NULL, 0, &out.wire), NOTHING);
         is("order of none", S(NO_HANDLE), fibs_client_order_roll(&client), NOTHING);
         is("withdraw of none", S(NO_HANDLE), fibs_client_withdraw_roll(&client), NOTHING);
@@ -331,6 +336,7 @@ static void check_client(void) {
         all_refused(&client, S(OFFLINE));
         sends("plain offline", S(OFFLINE), fibs_client_plain(&client, T("who"), &out.wire), NOTHING);
         sends("own line offline", S(OFFLINE), fibs_client_own_line(&client, T("leave"), &out.wire), NOTHING);
+        sends("unguarded offline", S(OFFLINE), fibs_client_unguarded_line(&client, T("leave"), &out.wire), NOTHING);
         is("order offline", S(OFFLINE), fibs_client_order_roll(&client), NOTHING);
         is("withdraw offline", S(OFFLINE), fibs_client_withdraw_roll(&client), NOTHING);
         is("ordered offline", S(DONE), fibs_client_ordered(&client, &out.byte), BYTE);
@@ -406,6 +412,11 @@ static void check_client(void) {
         sends("the answer to an offer", S(DONE), fibs_client_own_line(&client, T("accept"), &out.wire), NOTHING);
         all_refused(&client, S(DONE));
         all_refused(&client, S(WAITING));
+        sends("nor while it waits", S(TAKEN), fibs_client_own_line(&client, T("roll"), &out.wire), NOTHING);
+        sends("nor another one", S(TAKEN), fibs_client_own_line(&client, T("move 24-23"), &out.wire), NOTHING);
+        sends("still the answer", S(DONE), fibs_client_own_line(&client, T("reject"), &out.wire), NOTHING);
+        sends("but unguarded", S(DONE), fibs_client_unguarded_line(&client, T("roll"), &out.wire), NOTHING);
+        sends("a bad text", S(BAD_TEXT), fibs_client_unguarded_line(&client, T("a\n"), &out.wire), NOTHING);
         is("it waits", S(DONE), fibs_client_waiting(&client, &out.waited), WAITED);
         is("order", S(DONE), fibs_client_order_roll(&client), NOTHING);
         is("order again", S(ALREADY_ORDERED), fibs_client_order_roll(&client), NOTHING);

@@ -488,8 +488,22 @@ def lines_of_ones_own_go_past_the_client(counts):
     counts.raises(fibs.Closed, client.own_line, 'leave')
 
 
+        counts.raises(fibs.Offline, fibs.Client('ann', 'secret').unguarded_line, 'leave')
 def handles_are_given_back_once(counts):
     """All that can happen to a value, in a Python that reports every warning."""
+        for line in 'roll', 'r', ' ROLL', 'move 24-23', 'M 24 23', 'double', 'redouble', 'resign n', 'who':
+            counts.raises(fibs.Taken, client.own_line, line)
+        counts.same(client.own_line('reject'), b'reject\r\n', 'an offer may be answered while a decision waits')
+        counts.same(client.unguarded_line('roll'), b'roll\r\n', 'a line of which nothing is promised')
+        counts.raises(fibs.BadText, client.unguarded_line, 'a\nroll')
+        counts.same(str(client.waiting.decision), 'roll', 'the client does not know of it')
+        # a double is to be answered
+        list(client.feed(BOARD.replace(b':0:1:-1:0:25:', b':1:1:-1:0:25:') + b'\n'))
+        if client.shown.phase == fibs.Phase.ANSWER_DOUBLE:
+            for line in 'accept', 'a', 'Reject', 'rej':
+                counts.raises(fibs.Taken, client.own_line, line)
+        else:
+            counts.check(False, 'the board asks for no answer')
     script = """import copy, gc, pickle, fibs
 for make in (lambda: fibs.Client('ann', 'secret'), fibs.Lines, fibs.Directory):
     for again in copy.copy, copy.deepcopy, pickle.dumps:

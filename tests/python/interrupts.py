@@ -30,7 +30,7 @@ def tail(code):
 
 TAILS = {function.__code__: tail(function.__code__)
          for function in (fibs.Client.open, fibs.Client.feed, fibs.Client._hear, fibs.Client.decide, fibs.Client.plain,
-                          fibs.Client.own_line, fibs.Client.lose)}
+                          fibs.Client.own_line, fibs.Client.unguarded_line, fibs.Client.lose)}
 
 
 class Interrupting:

@@ -5,13 +5,14 @@ ghost use Rattle.std.specs.Result.{result_err};
 ghost use Rattle.fibs_commands.specs.PlainCommands.{text_fault};
 ghost use Rattle.fibs_session.specs.Calls.Standing.{StandsAfter};
 ghost use Rattle.fibs_session.specs.History.Machine.{Talk, is_online, on_wire};
-ghost use Rattle.fibs_c.specs.OwnLineDoor.{IsOwnSent, own_refusal};
+ghost use Rattle.fibs_c.specs.OwnLineDoor.{IsOwnSent, own_refusal, unguarded_refusal};
 ghost use Rattle.fibs_c.specs.Records.Wires.{Holds, IsEmptied};
 
 use crate::records::ClientHandle;
 use crate::records::status::{DONE, NO_HANDLE, TAKEN, plain_fault_status, refusal_status};
 use crate::records::wire::{WireRecord, clear, put_line};
 use fibs_commands::{PlainFault, plain_text};
+use fibs_session::typed::deciding::decides;
 use fibs_session::typed::taking::would_take;
 use fibs_session::{Client, Plain, Refusal};
 use std::alloc::Global;
@@ -41,8 +42,19 @@ fn own_refusal(client: &Client, line: &[u8]) -> u32
 {
     if is_offline(client) {
         refusal_status(Refusal::Offline)
-    } else if would_take(client, line) {
+    } else if would_take(client, line) || decides(client, line) {
         TAKEN
+    } else {
+        DONE
+    }
+}
+
+/// Why the client does not let a line go of which its promise says nothing, or 0.
+fn unguarded_refusal(client: &Client) -> u32
+    ensures { (t : Talk) → StandsAfter client.now t → result ≡ unguarded_refusal t }
+{
+    if is_offline(client) {
+        refusal_status(Refusal::Offline)
     } else {
         DONE
     }
@@ -61,7 +73,7 @@ fn hand_out_line(wire: &mut WireRecord, line: &[u8], status: u32)
 }
 
 /// Hands out a line as it is, for what the client has no command for. The client does not know of it, and refuses the
-/// line if it would take it itself.
+/// line if it would take it itself, or if it decides in the game.
 #[unsafe(no_mangle)]
 pub extern "C" fn fibs_client_own_line(
     alloc: Global,
@@ -69,7 +81,8 @@ pub extern "C" fn fibs_client_own_line(
     line: &[u8],
     wire: &mut WireRecord,
 ) -> u32
-    ensures { IsOwnSent (text_fault line.now) line.now client.old.value client.new.value wire.old wire.new result }
+    ensures { IsOwnSent (text_fault line.now) (λ t. own_refusal t line.now) line.now
+        client.old.value client.new.value wire.old wire.new result }
 {
     clear(wire);
     if let Err(fault) = checked(line) {
@@ -77,6 +90,29 @@ pub extern "C" fn fibs_client_own_line(
     }
     with!(ClientHandle, client, alloc, |held| {
         let status = own_refusal(&held, line);
+        hand_out_line(wire, line, status);
+        status
+    })
+}
+
+/// Hands out a line as it is, whatever it is: also a decision, which the client then does not know of. What the client
+/// promises of decisions does not hold of it.
+#[unsafe(no_mangle)]
+pub extern "C" fn fibs_client_unguarded_line(
+    alloc: Global,
+    client: &mut ClientHandle,
+    line: &[u8],
+    wire: &mut WireRecord,
+) -> u32
+    ensures { IsOwnSent (text_fault line.now) unguarded_refusal line.now
+        client.old.value client.new.value wire.old wire.new result }
+{
+    clear(wire);
+    if let Err(fault) = checked(line) {
+        return plain_fault_status(fault);
+    }
+    with!(ClientHandle, client, alloc, |held| {
+        let status = unguarded_refusal(&held);
         hand_out_line(wire, line, status);
         status
     })

@@ -7,3 +7,5 @@ pub mod Calls
 -- What a line that a user types is.
 pub mod Typing
 pub mod TypedOf
+-- Which lines decide in the game.
+pub mod OwnLines
