@@ -45,21 +45,24 @@ class Decision(NamedTuple):
         return cls(DecisionKind.MOVE, tuple(Step(*step) for step in steps))
 
     @classmethod
-    def parse(cls, text: Text, direction: int = -1) -> Decision:
-        """The decision whose command the text is, for a player of this direction (field 43 of a board). NoDirection;
-        NoCommand."""
+    def parse(cls, text: Text, direction: int) -> Decision:
+        """The decision whose command the text is, in the server's numbers for a player of this direction (field 43 of
+        a board). NoDirection; NoCommand."""
         record, data = _library.Decision(), bytes_of(text)
         check(_library.lib.fibs_read_decision(data, len(data), direction_of(direction), byref(record)))
         return decision_of(record)
 
-    def command(self, direction: int = -1) -> str:
-        """The command, for a player of this direction (field 43 of a board), such as `move 24-18`. NoDecision;
-        NoDirection."""
+    def command(self, direction: int) -> str:
+        """The command, in the server's numbers for a player of this direction (field 43 of a board), such as
+        `move 24-18`. NoDecision; NoDirection."""
         record = record_of(self)
         return told_text(_library.lib.fibs_decision_text, byref(record), direction_of(direction)).decode('ascii')
 
     def __str__(self) -> str:
-        return self.command()
+        """A play in own numbers, such as `24/18 13/11`; another decision as its command."""
+        if self.kind != DecisionKind.MOVE:
+            return self.command(-1)
+        return ' '.join('%s/%s' % ('bar' if source == 25 else source, target or 'off') for source, target in self.steps)
 
 
 ROLL = Decision(DecisionKind.ROLL)

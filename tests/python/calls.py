@@ -204,8 +204,8 @@ def lines_that_are_no_board_say_why(counts):
 
 def the_rules_are_those_of_the_program(counts):
     counts.same((fibs.phase(BOARD), str(fibs.phase(MOVES))), (fibs.Phase.ROLL_OR_DOUBLE, 'Move'), 'phases')
-    found = [play.command() for play in fibs.plays(MOVES)]
-    counts.check(found and all(fibs.allows(MOVES, fibs.Decision.parse(play)) for play in found), 'plays are allowed')
+    found = [play.command(-1) for play in fibs.plays(MOVES)]
+    counts.check(found and all(fibs.allows(MOVES, fibs.Decision.parse(play, -1)) for play in found), 'plays are allowed')
     counts.same([type(fibs.refusal(MOVES, decision)) for decision in (fibs.ROLL, fibs.Decision.move([(5, 4)]))],
                 [fibs.WrongKind, fibs.IllegalPlay], 'why not')
     counts.same(fibs.refusal(MOVES.replace(b':1:2:1:', b':-1:2:1:'), fibs.ROLL).name, 'NotYours', 'not the turn')
@@ -217,7 +217,7 @@ def the_rules_are_those_of_the_program(counts):
         return
     for line in MOVES, REAL, many:
         listed = subprocess.run([counts.program, 'plays', line], capture_output=True, text=True, check=True).stdout
-        counts.same([play.command() for play in fibs.plays(line)], listed.splitlines()[1:], 'the plays of the program')
+        counts.same([play.command(-1) for play in fibs.plays(line)], listed.splitlines()[1:], 'the plays of the program')
 
 
 def a_board_after_a_decision(counts):
@@ -304,12 +304,17 @@ def decisions_are_spelled_and_read(counts):
     for decision, down, up in [(fibs.ROLL, 'roll', 'roll'), (fibs.RESIGN_GAMMON, 'resign g', 'resign g'),
                                (fibs.Decision.move([(25, 20), (6, 0)]), 'move bar-20 6-off', 'move bar-5 19-off'),
                                (fibs.Decision.move(()), 'move', 'move')]:
-        counts.same((str(decision), decision.command(1)), (down, up), 'commands')
-        counts.same((fibs.Decision.parse(down), fibs.Decision.parse(up.encode(), 1)), (decision, decision), 'read')
+        counts.same((decision.command(-1), decision.command(1)), (down, up), 'commands')
+        counts.same((fibs.Decision.parse(down, -1), fibs.Decision.parse(up.encode(), 1)), (decision, decision), 'read')
+    # no direction is taken for granted: what is printed is in own numbers, which are those of no command
+    counts.same([str(decision) for decision in (fibs.ROLL, fibs.RESIGN_GAMMON, fibs.Decision.move([(25, 20), (6, 0)]))],
+                ['roll', 'resign g', 'bar/20 6/off'], 'prints')
+    counts.raises(TypeError, fibs.Decision.parse, 'move 24-18')
+    counts.raises(TypeError, fibs.ROLL.command)
     for text in 'Roll', '', 'roll ', 'move 0-1', 'caf\xe9', '\ud800', b'\xff':
-        counts.raises(fibs.NoCommand, fibs.Decision.parse, text)
+        counts.raises(fibs.NoCommand, fibs.Decision.parse, text, -1)
     for steps in [[(24, 23)] * 5, [(0, 1)], [(26, 1)]]:
-        counts.raises(fibs.NoDecision, fibs.Decision.move(steps).command)
+        counts.raises(fibs.NoDecision, fibs.Decision.move(steps).command, -1)
         counts.raises(fibs.NoDecision, fibs.allows, MOVES, fibs.Decision.move(steps))
     counts.raises(fibs.NoDecision, fibs.allows, MOVES, fibs.Decision(9))
     for decision in [fibs.Decision(256), fibs.Decision(-1), fibs.Decision.move([(256, 1)]),
@@ -409,7 +414,7 @@ def a_client_sends_and_waits(counts):
         counts.raises(fibs.AlreadyOrdered, client.order_roll)
         lost = client.lose()
         counts.check(not client.ordered, 'it ends with the connection')
-        counts.same((str(lost.decision), lost.board), ('move 5-3 3-2', fibs.Board(MOVES)), 'what a loss left open')
+        counts.same((str(lost.decision), lost.board), ('5/3 3/2', fibs.Board(MOVES)), 'what a loss left open')
         counts.same(client.lose(), None, 'a second loss')
         for call, words in [(client.decide, (fibs.ROLL,)), (client.plain, ('who',)), (client.withdraw_roll, ()),
                             (client.order_roll, ())]:
@@ -483,14 +488,9 @@ def lines_of_ones_own_go_past_the_client(counts):
         before = client.shown, client.waiting, client.ready
         counts.raises(fibs.Taken, client.own_line, 'roll')
         counts.same(client.own_line('accept'), b'accept\r\n', 'the answer to an offer to resign')
+        counts.raises(fibs.Offline, fibs.Client('ann', 'secret').unguarded_line, 'leave')
         counts.same((client.shown, client.waiting, client.ready), before, 'the client does not know of it')
         counts.same(client.decide(fibs.ROLL), b'roll\r\n', 'and goes on')
-    counts.raises(fibs.Closed, client.own_line, 'leave')
-
-
-        counts.raises(fibs.Offline, fibs.Client('ann', 'secret').unguarded_line, 'leave')
-def handles_are_given_back_once(counts):
-    """All that can happen to a value, in a Python that reports every warning."""
         for line in 'roll', 'r', ' ROLL', 'move 24-23', 'M 24 23', 'double', 'redouble', 'resign n', 'who':
             counts.raises(fibs.Taken, client.own_line, line)
         counts.same(client.own_line('reject'), b'reject\r\n', 'an offer may be answered while a decision waits')
@@ -504,6 +504,11 @@ def handles_are_given_back_once(counts):
                 counts.raises(fibs.Taken, client.own_line, line)
         else:
             counts.check(False, 'the board asks for no answer')
+    counts.raises(fibs.Closed, client.own_line, 'leave')
+
+
+def handles_are_given_back_once(counts):
+    """All that can happen to a value, in a Python that reports every warning."""
     script = """import copy, gc, pickle, fibs
 for make in (lambda: fibs.Client('ann', 'secret'), fibs.Lines, fibs.Directory):
     for again in copy.copy, copy.deepcopy, pickle.dumps:
@@ -536,7 +541,7 @@ def handles_say_their_state(counts):
     list(client.feed(GREETING + MOVES + b'\n'))
     counts.same(repr(client), '<fibs.Client: ann, logged in>', 'a client that is logged in')
     client.decide(fibs.Decision.move([(5, 3), (3, 2)]))
-    counts.same(repr(client), '<fibs.Client: ann, logged in, move 5-3 3-2 waits>', 'a client that waits')
+    counts.same(repr(client), '<fibs.Client: ann, logged in, 5/3 3/2 waits>', 'a client that waits')
     client.lose()
     counts.same(repr(client), '<fibs.Client: ann, not connected>', 'a client that lost its connection')
     lines.feed(b'a\nbcd')

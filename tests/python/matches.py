@@ -314,7 +314,7 @@ def an_answer_that_is_not_valid_is_not_taken(counts):
         for answer, wanted in answers.items():
             bot.ask = lambda _, answer=answer: answer
             decision = bot.decision(one)
-            counts.same(str(decision), wanted, 'the answer %r' % answer)
+            counts.same(decision.command(one.direction), wanted, 'the answer %r' % answer)
             counts.check(one.allows(decision), 'it is allowed')
     counts.same(bot.gnubg.ask(b'board'), '', 'a program that is not there has no answer')
     bot.close()

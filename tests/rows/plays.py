@@ -46,15 +46,15 @@ def steps_have_places(check):
         (26, 0, 'NoDecision'),
         (1, 25, 'NoDecision'),
     ]:
-        check(answer(move_of([(source, target)]).command), command, '%d to %d' % (source, target))
+        check(answer(move_of([(source, target)]).command, -1), command, '%d to %d' % (source, target))
 
 
 @test
 def a_play_has_four_steps(check):
     step = (24, 18)
     four = move_of([step] * 4)
-    check(answer(four.command), 'move 24-18 24-18 24-18 24-18', 'there is room')
-    check(answer(move_of([step] * 5).command), 'NoDecision', 'there are four')
+    check(answer(four.command, -1), 'move 24-18 24-18 24-18 24-18', 'there is room')
+    check(answer(move_of([step] * 5).command, -1), 'NoDecision', 'there are four')
     check(read_decision('move 24-18 24-18 24-18 24-18'), four, 'four are read')
     check(read_decision('move 24-18 24-18 24-18 24-18 24-18'), None, 'five are not')
 

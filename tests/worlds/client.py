@@ -33,7 +33,7 @@ def hear(client, piece):
     said = []
     for heard in client.feed(piece):
         said += commands(heard.send)
-        said += ['confirmed ' + heard.confirmed.command()] if heard.confirmed else []
+        said += ['confirmed ' + heard.confirmed.command(client.shown.direction)] if heard.confirmed else []
         said += ['rolled'] if heard.rolled else []
     return said
 
@@ -49,7 +49,7 @@ def answer(client, step, cut):
         return commands(client.open())
     if word == 'lose':
         lost = client.lose()
-        return ['lost ' + lost.decision.command()] if lost else []
+        return ['lost ' + lost.decision.command(lost.board.direction)] if lost else []
     if word == 'order':
         client.order_roll()
         return ['ordered']
