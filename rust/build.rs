@@ -5,7 +5,7 @@ mod eraser;
 #[path = "build/library.rs"]
 mod library;
 
-use library::{BY_HAND, CRATES, attributes};
+use library::{BY_HAND, CRATES, attributes, show};
 use std::env;
 use std::path::PathBuf;
 use std::process::exit;
@@ -17,7 +17,7 @@ fn main() {
     let root = PathBuf::from(env::var_os("CARGO_MANIFEST_DIR").unwrap_or_default());
     let sources = library::sources(&root);
     let out = PathBuf::from(env::var_os("OUT_DIR").unwrap_or_default());
-    if let Err(why) = eraser::erase_all(&sources, &out, &plan) {
+    if let Err(why) = eraser::erase_all(&sources, &out, &plan).and_then(|_| show(&out, &crates)) {
         eprintln!("{why}");
         exit(1);
     }

@@ -1,7 +1,8 @@
 //! What a Rust author expects of boards, positions, plays and messages. Written by hand.
 
 use crate::{
-    AllocError, Board, FieldFault, Message, Play, Position, PositionFault, Reading, Step, print_message, read,
+    AllocError, Board, Decision, Direction, Disallowed, FieldFault, Message, Phase, Play, Position, PositionFault,
+    Reading, Step, differs, effect, fibs_messages::print_message, field, read,
 };
 use std::fmt;
 use std::hash::{Hash, Hasher};
@@ -22,7 +23,152 @@ impl Board {
     pub fn get(&self, n: usize) -> Option<i32> {
         (4..=53).contains(&n).then(|| self.field(n))
     }
+
+    /// How many points the match is to. None if it is unlimited.
+    pub fn length(&self) -> Option<i32> {
+        Some(self.field(field::MATCH_LENGTH)).filter(|length| *length != field::UNLIMITED)
+    }
+
+    /// The player's points.
+    pub fn score(&self) -> i32 {
+        self.field(field::OWN_SCORE)
+    }
+
+    /// The opponent's points.
+    pub fn opponent_score(&self) -> i32 {
+        self.field(field::OTHER_SCORE)
+    }
+
+    /// The player's dice, if he has rolled.
+    ///
+    /// ```
+    /// # let line = "board:You:bob:3:0:1:0:-2:0:0:0:0:5:0:3:0:0:0:-5:5:0:0:0:-3:0:-5:0:0:0:0:2:0:1:\
+    /// #     6:2:0:0:1:1:1:0:1:-1:0:25:0:0:0:0:2:0:0:0";
+    /// let board: fibs::Board = line.parse()?;
+    /// assert_eq!((board.dice(), board.opponent_dice()), (Some([6, 2]), None));
+    /// assert_eq!((board.length(), board.score(), board.opponent_score()), (Some(3), 0, 1));
+    /// assert_eq!((board.pips()?, board.is_match_over()), ((167, 167), false));
+    /// # Ok::<(), Box<dyn std::error::Error>>(())
+    /// ```
+    pub fn dice(&self) -> Option<[u8; 2]> {
+        self.pair(field::FIRST_DIE)
+    }
+
+    /// The opponent's dice, if he has rolled.
+    pub fn opponent_dice(&self) -> Option<[u8; 2]> {
+        self.pair(field::OTHER_FIRST_DIE)
+    }
+
+    fn pair(&self, n: usize) -> Option<[u8; 2]> {
+        Some([self.small(n), self.small(n + 1)]).filter(|dice| *dice != [0, 0])
+    }
+
+    fn small(&self, n: usize) -> u8 {
+        u8::try_from(self.field(n)).unwrap_or_default()
+    }
+
+    /// What the cube shows.
+    pub fn cube(&self) -> i32 {
+        self.field(field::CUBE)
+    }
+
+    /// Whether the player may double.
+    pub fn may_double(&self) -> bool {
+        self.field(field::MAY_DOUBLE) == 1
+    }
+
+    /// Whether the opponent may double.
+    pub fn opponent_may_double(&self) -> bool {
+        self.field(field::OTHER_MAY_DOUBLE) == 1
+    }
+
+    /// Whether the opponent has just doubled.
+    pub fn was_doubled(&self) -> bool {
+        self.field(field::WAS_DOUBLED) == 1
+    }
+
+    /// How many checkers the player has borne off.
+    pub fn off(&self) -> u8 {
+        self.small(field::OWN_OFF)
+    }
+
+    /// How many checkers the opponent has borne off.
+    pub fn opponent_off(&self) -> u8 {
+        self.small(field::OTHER_OFF)
+    }
+
+    /// Which way the player goes by the numbers of the server.
+    pub fn direction(&self) -> Direction {
+        Direction::of(self)
+    }
+
+    /// How many pips the player and the opponent have to go.
+    ///
+    /// # Errors
+    /// Why the board has no position.
+    pub fn pips(&self) -> Result<(u32, u32), PositionFault> {
+        let position = Position::of(self)?;
+        let sum = |on: &dyn Fn(u8) -> u8| (1..=25).map(|place| u32::from(place) * u32::from(on(place))).sum();
+        let other = |place| if place == 25 { position.other_bar() } else { position.other(25 - place) };
+        Ok((sum(&|place| position.own(place)), sum(&other)))
+    }
+
+    /// What the player may do.
+    ///
+    /// # Errors
+    /// Why the board has no position.
+    pub fn phase(&self) -> Result<Phase, PositionFault> {
+        Ok(Position::of(self)?.phase())
+    }
+
+    /// Why the player may not decide so on this board. None if he may.
+    ///
+    /// # Errors
+    /// Why the board has no position.
+    pub fn refusal(&self, decision: &Decision) -> Result<Option<Disallowed>, PositionFault> {
+        Ok(Position::of(self)?.allows(decision).err())
+    }
+
+    /// Whether the game is over, and the match with it: a side has the points that it is to, or it is to one point.
+    pub fn is_match_over(&self) -> bool {
+        let length = self.field(field::MATCH_LENGTH);
+        self.field(field::TURN) == 0 && (length <= 1 || length <= self.score() || length <= self.opponent_score())
+    }
+
+    /// The board after the server carried out a decision; a roll throws these dice. Of a play it is not asked if it is
+    /// legal. None if the server does not carry it out.
+    pub fn after(&self, decision: &Decision, dice: [u8; 2]) -> Option<Board> {
+        effect(self, decision, dice)
+    }
+
+    /// Whether the boards differ in what the game is: then the other one, if it is shown, ends the waiting of a
+    /// decision that was made on this one.
+    pub fn differs(&self, other: &Board) -> bool {
+        differs(self, other)
+    }
+
+    /// The same board with the sides exchanged, as if the user were the opponent: its plays are the opponent's. What
+    /// this board does not tell of the opponent is 0: whether he was doubled, and fields 50 and 51.
+    #[must_use]
+    pub fn turned(&self) -> Board {
+        (4..=53).fold(*self, |board, n| {
+            let value = match n {
+                field::WAS_DOUBLED | 50 | 51 => 0,
+                field::COLOUR | field::DIRECTION => -self.field(n),
+                n => self.field(
+                    SIDES
+                        .iter()
+                        .find_map(|[a, b]| [(a, b), (b, a)].into_iter().find(|pair| *pair.0 == n))
+                        .map_or(n, |pair| *pair.1),
+                ),
+            };
+            board.with(n, value).unwrap_or(board)
+        })
+    }
 }
+
+/// The fields that say the same of one side and of the other.
+const SIDES: [[usize; 2]; 7] = [[5, 6], [34, 36], [35, 37], [39, 40], [44, 45], [46, 47], [48, 49]];
 
 impl fmt::Display for Board {
     /// The line that says the board, without a line end.

@@ -1,6 +1,11 @@
 //! The client with a queue of what is to be sent. Written by hand, over the proved client.
 
-use crate::{Board, Decision, Line, Login, Outstanding, Plain, PlainRefusal, Reading, Refusal, fibs_session};
+use crate::fibs_session::typed::{deciding::decides, taking::would_take};
+use crate::{
+    Board, CommandText, Decision, Direction, Line, Login, Outstanding, OwnedLine, Plain, PlainFault, PlainRefusal,
+    Reading, Refusal, decision_text, fibs_session, plain_text,
+};
+use std::fmt;
 use std::io::{self, ErrorKind, Write};
 
 /// A client of the server, without I/O: bytes of the server go in, bytes for the server come out.
@@ -35,10 +40,13 @@ use std::io::{self, ErrorKind, Write};
 /// # Ok::<(), Box<dyn std::error::Error>>(())
 /// ```
 pub struct Client {
-    client: fibs_session::Client,
+    /// In a box: it has a line of the server.
+    client: Box<fibs_session::Client>,
     /// What is to be sent; the first `done` bytes of it were sent.
     queue: Vec<u8>,
     done: usize,
+    /// Where in the queue the decision ends that waits, without its line end; 0 if it was sent.
+    decided: usize,
 }
 
 /// A line that the client has heard, and what it means for the client.
@@ -55,10 +63,94 @@ pub struct Heard<'a> {
     pub rolled: bool,
 }
 
+impl Heard<'_> {
+    /// The same without a borrow, so that the client may be asked and told anything while you hold it.
+    ///
+    /// ```
+    /// # use fibs::{Client, Heard, Login, Message, Plain, Reading};
+    /// # let mut client = Client::new(Login::new(b"ann", b"secret")?);
+    /// # client.open()?;
+    /// let mut piece = &b"12 bob Shall we?\r\n"[..];
+    /// while let Some(heard) = client.hear(&mut piece).map(Heard::into_owned) {
+    ///     if let Reading::Numbered(Message::Says { name, text }) = heard.reading() {
+    ///         client.plain(&Plain::Tell(name.bytes(), text))?;
+    ///     }
+    /// }
+    /// assert!(client.outgoing().ends_with(b"tell bob Shall we?\r\n"));
+    /// # Ok::<(), Box<dyn std::error::Error>>(())
+    /// ```
+    pub fn into_owned(self) -> OwnedHeard {
+        OwnedHeard { line: self.line.into(), confirmed: self.confirmed, rolled: self.rolled }
+    }
+}
+
+/// A line that the client has heard, copied: see [`Heard::into_owned`].
+#[derive(Clone, Debug, PartialEq, Eq)]
+#[non_exhaustive]
+pub struct OwnedHeard {
+    /// The line itself.
+    pub line: OwnedLine,
+    /// The decision that waited, if the line is a board that confirms it.
+    pub confirmed: Option<Outstanding>,
+    /// Whether the line is a board at which the standing order was due: the client has rolled.
+    pub rolled: bool,
+}
+
+impl OwnedHeard {
+    /// What it is. A line that was cut is a text.
+    pub fn reading(&self) -> Reading<'_> {
+        self.line.reading()
+    }
+}
+
+/// A decision that waited when the connection was lost.
+#[derive(Clone, Copy, Debug, PartialEq, Eq)]
+#[non_exhaustive]
+#[must_use = "ask the user whether to decide so again"]
+pub struct Lost {
+    /// The decision.
+    pub decision: Decision,
+    /// The board on which it was made.
+    pub board: Board,
+    /// Whether the server may know of it. If not, its command was still to be sent.
+    pub may_be_known: bool,
+}
+
+/// Why a line of one's own is not sent. Of several reasons the first is named.
+#[derive(Clone, Copy, Debug, PartialEq, Eq, Hash)]
+#[non_exhaustive]
+pub enum OwnLineRefusal {
+    /// What is wrong with its text.
+    Fault(PlainFault),
+    /// No connection is open.
+    Offline,
+    /// The client would take the line itself, or it decides in the game.
+    Taken,
+}
+
+impl fmt::Display for OwnLineRefusal {
+    fn fmt(&self, f: &mut fmt::Formatter<'_>) -> fmt::Result {
+        match self {
+            OwnLineRefusal::Fault(fault) => fault.fmt(f),
+            OwnLineRefusal::Offline => Refusal::Offline.fmt(f),
+            OwnLineRefusal::Taken => f.pad("the client takes the line itself, or it decides in the game"),
+        }
+    }
+}
+
+impl std::error::Error for OwnLineRefusal {}
+
+impl Lost {
+    /// The command of the decision, in the numbers of its board.
+    pub fn command(&self) -> CommandText {
+        decision_text(&self.decision, Direction::of(&self.board))
+    }
+}
+
 impl Client {
     /// A client that never had a connection.
     pub fn new(login: Login) -> Client {
-        Client { client: fibs_session::Client::new(login), queue: Vec::new(), done: 0 }
+        Client { client: Box::new(fibs_session::Client::new(login)), queue: Vec::new(), done: 0, decided: 0 }
     }
 
     /// A connection was opened: the login command is to be sent. What was left of an earlier connection is forgotten.
@@ -82,6 +174,10 @@ impl Client {
         let taken = got.taken?;
         for command in &taken.send {
             append(&mut self.queue, command);
+        }
+        if taken.rolled {
+            // it rolls by the last of these commands
+            self.decided = self.queue.len() - END.len();
         }
         Some(Heard { line: taken.line, reading: taken.reading, confirmed: taken.confirmed, rolled: taken.rolled })
     }
@@ -130,6 +226,7 @@ impl Client {
     pub fn decide(&mut self, decision: &Decision) -> Result<(), Refusal> {
         let command = self.client.decide(decision)?;
         self.queue_command(&command);
+        self.decided = self.queue.len() - END.len();
         Ok(())
     }
 
@@ -141,6 +238,51 @@ impl Client {
         let command = self.client.plain(plain)?;
         self.queue_command(&command);
         Ok(())
+    }
+
+    /// Sends a line of your own, for what has no [`Plain`]: `leave`, `watch bob`, `accept` or `reject` as the answer to
+    /// an offer to resign. The client does not know of it. A line that decides in the game is refused, however it is
+    /// spelled and whether a decision waits or not; an answer goes if the board shown has no double to be answered.
+    ///
+    /// ```
+    /// # use fibs::{Client, Login, OwnLineRefusal};
+    /// # let mut client = Client::new(Login::new(b"ann", b"secret")?);
+    /// # client.open()?;
+    /// client.own_line(b"leave")?;
+    /// assert_eq!(client.own_line(b"r"), Err(OwnLineRefusal::Taken)); // a server may take it for `roll`
+    /// # Ok::<(), Box<dyn std::error::Error>>(())
+    /// ```
+    ///
+    /// # Errors
+    /// The first of the [`OwnLineRefusal`]s that holds; then nothing has changed.
+    pub fn own_line(&mut self, line: &[u8]) -> Result<(), OwnLineRefusal> {
+        self.may_send(line)?;
+        if would_take(&self.client, line) || decides(&self.client, line) {
+            return Err(OwnLineRefusal::Taken);
+        }
+        self.send_line(line);
+        Ok(())
+    }
+
+    /// Sends any line, also one that decides: for a decision that waits since the server refused it by a text, and that
+    /// the user makes once more. The client does not know of it, and promises nothing of it.
+    ///
+    /// # Errors
+    /// [`OwnLineRefusal::Fault`], [`OwnLineRefusal::Offline`]; then nothing has changed.
+    pub fn unguarded_line(&mut self, line: &[u8]) -> Result<(), OwnLineRefusal> {
+        self.may_send(line)?;
+        self.send_line(line);
+        Ok(())
+    }
+
+    fn may_send(&self, line: &[u8]) -> Result<(), OwnLineRefusal> {
+        plain_text(&Plain::Say(line)).map_err(OwnLineRefusal::Fault)?;
+        if self.client.plain_refusal(&Plain::Board).is_some() { Err(OwnLineRefusal::Offline) } else { Ok(()) }
+    }
+
+    fn send_line(&mut self, line: &[u8]) {
+        self.queue.extend_from_slice(line);
+        self.queue.extend_from_slice(END);
     }
 
     /// Gives a standing order: from now on the client rolls by itself if the player may not double, until the order is
@@ -160,11 +302,30 @@ impl Client {
         self.client.withdraw_roll()
     }
 
-    /// The connection was lost: nothing of it is kept. Gives the decision that waited, if one did, with its board:
-    /// whether the server took it is not known, so ask the user.
-    pub fn lose(&mut self) -> Option<Outstanding> {
+    /// The connection was lost: nothing of it is kept. Gives the decision that waited, if one did, with its board, and
+    /// whether the server may know of it: then ask the user.
+    #[must_use = "the decision that waited is told once"]
+    pub fn lose(&mut self) -> Option<Lost> {
+        // its command was sent once a byte of its line end was
+        let may_be_known = self.decided == 0 || self.done > self.decided;
         self.forget();
-        self.client.lose()
+        self.client.lose().map(|Outstanding { decision, board, .. }| Lost { decision, board, may_be_known })
+    }
+
+    /// Whether the server has sent messages 1 and 2 on an open connection. Before that it may take what is sent for a
+    /// name or a password: send nothing but the login.
+    pub fn is_ready(&self) -> bool {
+        !matches!(self.state(), ConnectionState::Offline | ConnectionState::Login)
+    }
+
+    /// The state of the connection.
+    pub fn state(&self) -> ConnectionState {
+        match self.client.refusal(&Decision::Roll) {
+            Some(Refusal::Offline) => ConnectionState::Offline,
+            Some(Refusal::NotReady) => ConnectionState::Login,
+            Some(Refusal::ServerPlays) => ConnectionState::ServerPlays,
+            _ => ConnectionState::Ready,
+        }
     }
 
     /// Why [`decide`](Client::decide) would refuse the decision now. None if it would take it.
@@ -205,11 +366,29 @@ impl Client {
     fn forget(&mut self) {
         self.queue.clear();
         self.done = 0;
+        self.decided = 0;
     }
 }
+
+/// The state of a client's connection.
+#[derive(Clone, Copy, Debug, PartialEq, Eq, Hash)]
+#[non_exhaustive]
+pub enum ConnectionState {
+    /// No connection is open.
+    Offline,
+    /// The login is not answered by messages 1 and 2: it may be refused, if the server asks for it again.
+    Login,
+    /// The user may be asked.
+    Ready,
+    /// The server moves or bears off by itself, so the client refuses decisions.
+    ServerPlays,
+}
+
+/// What ends each command.
+const END: &[u8] = b"\r\n";
 
 /// Adds a command and its line end.
 fn append(queue: &mut Vec<u8>, command: &str) {
     queue.extend_from_slice(command.as_bytes());
-    queue.extend_from_slice(b"\r\n");
+    queue.extend_from_slice(END);
 }

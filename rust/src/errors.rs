@@ -1,6 +1,9 @@
-//! Refusals and faults as errors of Rust, and the missing prints. Written by hand.
+//! Refusals and faults as errors of Rust: what each says in a sentence; and the missing prints. Written by hand.
 
-use crate::{Client, Directory, DirectoryFault, Lines, Login, PlainFault, PlainRefusal, Refusal};
+use crate::{
+    Client, Directory, DirectoryFault, Disallowed, Fault, Lines, Login, OwnLineRefusal, PlainFault, PlainRefusal,
+    PositionFault, Refusal,
+};
 use std::error::Error;
 use std::fmt;
 
@@ -8,6 +11,101 @@ impl Error for PlainFault {}
 impl Error for PlainRefusal {}
 impl Error for Refusal {}
 impl Error for DirectoryFault {}
+
+/// What an error prints: a sentence, without its full stop.
+pub(crate) trait Says {
+    fn says(&self) -> &'static str;
+}
+
+/// The sentence of each variant.
+macro_rules! says {
+    ($($name:ident { $($variant:ident: $text:literal,)* })*) => {
+        $(impl Says for $name {
+            fn says(&self) -> &'static str {
+                match self {
+                    $($name::$variant => $text,)*
+                }
+            }
+        })*
+    };
+}
+
+says! {
+    Refusal {
+        AlreadyOpen: "a connection is open already",
+        Offline: "no connection is open",
+        NotReady: "the server has not answered the login by messages 1 and 2",
+        ServerPlays: "the server moves or bears off by itself (automove or greedy is on)",
+        NoBoard: "no board on which the user plays was shown on this connection",
+        Waiting: "a decision was sent, and no board that differs was shown since",
+        NotYours: "the player does not decide on the board that is shown",
+        WrongKind: "the board that is shown asks for another kind of decision, or the cube forbids it",
+        IllegalPlay: "the move is not legal",
+        NotOn: "the setting is off, or was turned off already",
+        AlreadyOrdered: "a standing order to roll is in force already",
+        NotOrdered: "no standing order to roll is in force",
+    }
+    Disallowed {
+        NotYours: "the player does not decide on the board",
+        WrongKind: "the board asks for another kind of decision, or the cube forbids it",
+        IllegalPlay: "the move is not legal",
+    }
+    PositionFault {
+        NotYou: "the board is that of a game in which the user does not play",
+        TooManyOwn: "the player has more than fifteen checkers",
+        TooManyOther: "the opponent has more than fifteen checkers",
+    }
+    Fault {
+        Missing: "the line ends before it",
+        Extra: "it follows the last field",
+        NotANumber: "it is not spelled as a number of its kind",
+        OutOfRange: "it is a number that the field may not have",
+        BadName: "it is no name, word or text of its kind",
+    }
+}
+
+impl PlainFault {
+    /// The fault's name.
+    pub fn name(self) -> &'static str {
+        match self {
+            PlainFault::BadName => "BadName",
+            PlainFault::BadText => "BadText",
+            PlainFault::TooLong => "TooLong",
+        }
+    }
+}
+
+impl PlainRefusal {
+    /// The refusal's name, or that of the fault.
+    pub fn name(self) -> &'static str {
+        match self {
+            PlainRefusal::Offline => Refusal::Offline.name(),
+            PlainRefusal::NotOn => Refusal::NotOn.name(),
+            PlainRefusal::Fault(fault) => fault.name(),
+        }
+    }
+}
+
+impl OwnLineRefusal {
+    /// The refusal's name, or that of the fault.
+    pub fn name(self) -> &'static str {
+        match self {
+            OwnLineRefusal::Fault(fault) => fault.name(),
+            OwnLineRefusal::Offline => Refusal::Offline.name(),
+            OwnLineRefusal::Taken => "Taken",
+        }
+    }
+}
+
+impl DirectoryFault {
+    /// The fault's name.
+    pub fn name(self) -> &'static str {
+        match self {
+            DirectoryFault::Memory => "Memory",
+            DirectoryFault::Full => "Full",
+        }
+    }
+}
 
 /// A debug print that shows no field.
 macro_rules! opaque {

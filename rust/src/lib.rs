@@ -64,28 +64,33 @@ mod rattle;
 mod serde;
 #[cfg(all(test, feature = "model"))]
 mod tests;
+mod values;
 
-pub use client::{Client, Heard};
+pub use client::{Client, ConnectionState, Heard, Lost, OwnLineRefusal, OwnedHeard};
 pub use fibs_commands::{
     AnswerText, CommandText, Login, Plain, PlainFault, decision_text, plain_text, read_command, read_plain,
 };
-pub use fibs_lines::{Fed, LIMIT, Line, Lines, WholeLine, sent_line};
+pub use fibs_lines::{Fed, LIMIT, Line};
 pub use fibs_messages::directory::{Directory, DirectoryFault, Player};
-pub use fibs_messages::{
-    Board, Fault, Field, FieldFault, Message, Name, OwnInfo, Reading, Tail, WhoInfo, Word, is_board_line,
-    message_number, print_message, read, read_decimal,
-};
+pub use fibs_messages::{Board, Fault, Field, FieldFault, Message, Name, OwnInfo, Reading, Tail, WhoInfo, Word, read};
 pub use fibs_position::{
-    Decision, Direction, Disallowed, Phase, Play, Position, PositionFault, Stake, Step, differs, effect, is_die,
-    is_good, phase_of,
+    Decision, Direction, Disallowed, Phase, Play, Position, PositionFault, Stake, Step, differs, effect,
 };
 pub use fibs_session::{Outstanding, PlainRefusal, Refusal};
-pub use lines::{OwnedLine, OwnedLines, ReadLines};
+pub use lines::{Lines, OwnedLine, OwnedLines, ReadLines};
 pub use rattle::alloc::AllocError;
+pub use values::ValueFault;
 
 /// The numbers of the fields of a board line, for [`Board::get`] and [`Board::with`].
 pub mod field {
     pub use crate::fibs_fields::boards::fields::*;
+}
+
+/// Functions that do what methods do, or a part of it: for a caller who has no value of their types.
+pub mod raw {
+    pub use crate::fibs_lines::sent_line;
+    pub use crate::fibs_messages::{is_board_line, message_number, print_message, read_decimal};
+    pub use crate::fibs_position::{is_die, is_good, phase_of};
 }
 
 /// What the program `fibs` prints of a stream and of a board.

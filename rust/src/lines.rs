@@ -1,10 +1,57 @@
 //! The lines of a stream, lent and owned. Written by hand.
 
-use crate::{Line, Lines, Reading};
+use crate::{Fed, Line, Reading, fibs_lines};
+use std::collections::VecDeque;
 use std::io::{self, Read};
 use std::iter::FusedIterator;
 
+/// The lines of a stream that comes in pieces, however it is cut. Of a line that has not ended at most
+/// [`LIMIT`](crate::LIMIT) bytes are kept.
+///
+/// ```
+/// let mut lines = fibs::Lines::new();
+/// let fed = lines.feed(b"login: hello\r\nb");
+/// assert_eq!((fed.used, fed.line.map(|line| line.bytes)), (14, Some(&b"hello"[..])));
+/// ```
+#[derive(Default)]
+pub struct Lines {
+    /// In a box: they have a line.
+    lines: Box<fibs_lines::Lines>,
+    /// The lines that an iterator left, and the one that is lent.
+    left: VecDeque<OwnedLine>,
+    lent: OwnedLine,
+}
+
 impl Lines {
+    /// Lines of an empty stream.
+    pub fn new() -> Lines {
+        Lines::default()
+    }
+
+    /// Reads the piece up to and with the next line end. Says how many bytes it used, and lends the line, if one ends.
+    ///
+    /// A line that [`owned`](Lines::owned) left is lent first, and no byte is used.
+    pub fn feed(&mut self, piece: &[u8]) -> Fed<'_> {
+        match self.left.pop_front() {
+            None => self.lines.feed(piece),
+            Some(line) => {
+                self.lent = line;
+                Fed { used: 0, line: Some(Line { bytes: &self.lent.bytes, cut: self.lent.cut }) }
+            }
+        }
+    }
+
+    /// The bytes that follow the last line end, without telnet commands.
+    pub fn unfinished(&self) -> &[u8] {
+        if self.left.is_empty() { self.lines.unfinished() } else { b"" }
+    }
+
+    /// Forgets the stream: what comes next begins another one.
+    pub fn reset(&mut self) {
+        self.lines.reset();
+        self.left.clear();
+    }
+
     /// Gives each line that the piece ends to `f`, in order. A line is lent: no memory is taken.
     ///
     /// ```
@@ -18,7 +65,7 @@ impl Lines {
     /// ```
     pub fn each(&mut self, piece: &[u8], mut f: impl FnMut(Line<'_>)) {
         let mut rest = piece;
-        while !rest.is_empty() {
+        while !(rest.is_empty() && self.left.is_empty()) {
             let fed = self.feed(rest);
             if let Some(line) = fed.line {
                 f(line);
@@ -27,12 +74,13 @@ impl Lines {
         }
     }
 
-    /// The lines that the piece ends, each copied. What is not asked for is not read.
+    /// The lines that the piece ends, each copied. If you leave some, the next call gives them first.
     ///
     /// ```
     /// let mut lines = fibs::Lines::new();
-    /// let texts: Vec<Vec<u8>> = lines.owned(b"one\r\ntwo\r\nthr").map(|line| line.bytes).collect();
-    /// assert_eq!(texts, [b"one", b"two"]);
+    /// assert_eq!(lines.owned(b"one\r\ntwo\r\nthr").next().unwrap().bytes, b"one");
+    /// let texts: Vec<Vec<u8>> = lines.owned(b"ee\r\n").map(|line| line.bytes).collect();
+    /// assert_eq!(texts, [&b"two"[..], b"three"]);
     /// ```
     pub fn owned<'a>(&'a mut self, piece: &'a [u8]) -> OwnedLines<'a> {
         OwnedLines { lines: self, rest: piece }
@@ -59,7 +107,7 @@ impl<'a> Line<'a> {
 }
 
 /// A line that is copied.
-#[derive(Clone, Debug, PartialEq, Eq, Hash)]
+#[derive(Clone, Debug, Default, PartialEq, Eq, Hash)]
 pub struct OwnedLine {
     /// What is kept of it: at most [`LIMIT`](crate::LIMIT) bytes.
     pub bytes: Vec<u8>,
@@ -95,6 +143,17 @@ impl Iterator for OwnedLines<'_> {
         let fed = self.lines.feed(self.rest);
         self.rest = self.rest.get(fed.used..).unwrap_or_default();
         fed.line.map(OwnedLine::from)
+    }
+}
+
+impl Drop for OwnedLines<'_> {
+    /// What was not asked for is kept.
+    fn drop(&mut self) {
+        while !self.rest.is_empty() {
+            let fed = self.lines.lines.feed(self.rest);
+            self.rest = self.rest.get(fed.used..).unwrap_or_default();
+            self.lines.left.extend(fed.line.map(OwnedLine::from));
+        }
     }
 }
 

@@ -10,6 +10,19 @@ use crate::{Board, Lines, Plain, PositionFault, read_plain};
 
 impl std::error::Error for WorldRefusal {}
 
+/// A debug print that shows no field.
+macro_rules! opaque {
+    ($($name:ident),*) => {
+        $(impl std::fmt::Debug for $name {
+            fn fmt(&self, f: &mut std::fmt::Formatter<'_>) -> std::fmt::Result {
+                f.debug_struct(stringify!($name)).finish_non_exhaustive()
+            }
+        })*
+    };
+}
+
+opaque!(Server, Table, World);
+
 /// A server with one table, at which a client plays. It is the model of a server that is proved, with a wire: bytes of
 /// the client go in, bytes for the client come out.
 ///

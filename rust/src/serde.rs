@@ -1,6 +1,7 @@
-//! Values by serde: a board is its line, a step a pair, a play a list of steps. Written by hand.
+//! Values by serde: a board is its line, a step a pair, a play a list of steps, what waits a decision with its board.
+//! Written by hand.
 
-use crate::{Board, Decision, Play, Stake, Step};
+use crate::{Board, Decision, Outstanding, Play, Stake, Step};
 use serde::de::{Error, Unexpected};
 use serde::{Deserialize, Deserializer, Serialize, Serializer};
 
@@ -74,5 +75,24 @@ impl Serialize for Decision {
 impl<'de> Deserialize<'de> for Decision {
     fn deserialize<D: Deserializer<'de>>(deserializer: D) -> Result<Decision, D::Error> {
         DecisionByName::deserialize(deserializer)
+    }
+}
+
+#[derive(Serialize, Deserialize)]
+#[serde(remote = "Outstanding")]
+struct OutstandingByName {
+    decision: Decision,
+    board: Board,
+}
+
+impl Serialize for Outstanding {
+    fn serialize<S: Serializer>(&self, serializer: S) -> Result<S::Ok, S::Error> {
+        OutstandingByName::serialize(self, serializer)
+    }
+}
+
+impl<'de> Deserialize<'de> for Outstanding {
+    fn deserialize<D: Deserializer<'de>>(deserializer: D) -> Result<Outstanding, D::Error> {
+        OutstandingByName::deserialize(deserializer)
     }
 }

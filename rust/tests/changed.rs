@@ -24,6 +24,7 @@ fn erased(name: &str) -> ([Build; 2], Vec<String>) {
     let plan =
         eraser::Plan { crates: &names, by_hand: library::BY_HAND, contracts: true, attributes: library::attributes };
     let required = eraser::erase_all(&sources(), &of_library, &plan).unwrap();
+    library::show(&of_library, &names).unwrap();
     let crates = program::erase(&sources().join(".."), &of_program).unwrap();
     let names = names.into_iter().map(String::from).collect();
     let builds = [

@@ -41,7 +41,7 @@ fn a_game_is_played_to_its_end() {
         }
         if step % 7 == 0 {
             table.lose();
-            client.lose();
+            let _ = client.lose();
             client.open().unwrap();
             continue;
         }

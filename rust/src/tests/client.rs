@@ -372,14 +372,14 @@ static PLAIN_TOLD: [(PlainRefusal, &str); 3] = [
     (PlainRefusal::Fault(PlainFault::BadText), "2 BadText"),
 ];
 
-/// Whether a refusal has this number and prints so.
+/// Whether a refusal has this number and these names. It prints a sentence, by hand.
 fn is_told(why: &Refusal, wanted: &str) -> bool {
-    format!("{} {why} {why:?}", why.number()) == wanted
+    format!("{} {} {why:?}", why.number(), why.name()) == wanted
 }
 
 /// The same of a refusal of a command that decides nothing.
 fn is_plain_told(why: &PlainRefusal, wanted: &str) -> bool {
-    format!("{} {why}", why.number()) == wanted
+    format!("{} {}", why.number(), why.name()) == wanted
 }
 
 #[test]
@@ -394,14 +394,14 @@ fn refusals_are_told_by_their_numbers_and_names() {
 
 /// Refusals in columns, by their widths.
 fn in_columns() -> String {
-    let no_board = Refusal::NoBoard;
-    let (not_on, plain_not_on) = (Refusal::NotOn, PlainRefusal::NotOn);
-    let (offline, bad_text) = (PlainRefusal::Offline, PlainRefusal::Fault(PlainFault::BadText));
-    format!("{no_board:>10}|{not_on:<8}|{plain_not_on:^9}|{offline:>8}|{bad_text:>10}")
+    let (offline, plain_offline) = (Refusal::Offline, PlainRefusal::Offline);
+    let (illegal, long) = (Refusal::IllegalPlay, PlainRefusal::Fault(PlainFault::TooLong));
+    format!("{offline:>22}|{plain_offline:<22}|{illegal:^23}|{long:>28}")
 }
 
 /// Refusals in columns.
-static COLUMNS: &str = "   NoBoard|NotOn   |  NotOn  | Offline|   BadText";
+static COLUMNS: &str =
+    " no connection is open|no connection is open | the move is not legal | the text has too many bytes";
 
 /// Whether the columns are these.
 fn are_in_columns() -> bool {

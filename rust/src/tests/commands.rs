@@ -90,13 +90,13 @@ fn resignations_are_read_in_both_directions() {
     }
 }
 
-/// Faults, and how their numbers and names are printed.
+/// Faults, and their numbers and names.
 static FAULTS: [(PlainFault, &str); 3] =
     [(PlainFault::BadName, "1 BadName"), (PlainFault::BadText, "2 BadText"), (PlainFault::TooLong, "3 TooLong")];
 
-/// Whether a fault's number and name are printed so.
+/// Whether a fault has this number and this name. It prints a sentence, by hand.
 fn is_told(fault: &PlainFault, told: &str) -> bool {
-    format!("{} {fault}", fault.number()) == told
+    format!("{} {}", fault.number(), fault.name()) == told
 }
 
 #[test]

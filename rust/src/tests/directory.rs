@@ -111,9 +111,10 @@ fn a_directory_is_empty_until_a_player_comes() {
     assert!(is_emptied(&mut directory));
 }
 
-/// Whether faults are told by their names, also in a wider place.
+/// Whether faults have their names, and print their sentences, also in a wider place.
 fn are_named(memory: DirectoryFault, full: DirectoryFault) -> bool {
-    format!("{memory}, {full:?}, {full:>6}, {memory:<8}.") == "Memory, Full,   Full, Memory  ."
+    [memory.name(), full.name()] == ["Memory", "Full"]
+        && format!("{full:?}, {memory:>15}, {memory:<15}.") == "Full,  memory ran out, memory ran out ."
 }
 
 #[test]

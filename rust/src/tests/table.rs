@@ -68,7 +68,7 @@ fn play(text: &str) -> Option<Play> {
     let mut play = Play::new();
     for step in parts(text, " ").filter(|step| *step != "none") {
         let (source, target) = step.split_once('-')?;
-        play.push(Step::new(place(source)?, place(target)?)?).then_some(())?;
+        play.push(Step::between(place(source)?, place(target)?)?).then_some(())?;
     }
     Some(play)
 }

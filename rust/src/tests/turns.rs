@@ -78,7 +78,7 @@ fn a_play_has_four_steps() {
 
 /// Where a step leads, as the server carries it out, which asks for no dice.
 fn leads_to(start: &Arrangement, source: u8, target: u8) -> Option<Option<Arrangement>> {
-    let step = Step::new(source, target)?;
+    let step = Step::between(source, target)?;
     Some(start.carried_out(&[step]))
 }
 
