@@ -1,5 +1,5 @@
-/** Bytes: a string whose characters are bytes, 0 to 255, or the bytes themselves. */
-export type Bytes = string | Uint8Array;
+/** Bytes: a string whose characters are bytes, 0 to 255, or the bytes themselves. Anything else is a TypeError. */
+export type Bytes = string | ArrayBufferView | ArrayBufferLike;
 
 export type Fault = 'Missing' | 'Extra' | 'NotANumber' | 'OutOfRange' | 'BadName';
 export type Phase = 'Over' | 'AnswerDouble' | 'OpponentActs' | 'RollOrDouble' | 'Move' | 'Passing';
@@ -28,11 +28,17 @@ export interface Board {
   mayDouble: boolean;
   opponentMayDouble: boolean;
   wasDoubled: boolean;
+  /** Whether the game is over, and the match with it. */
+  matchOver: boolean;
+  /** How many checkers each side has borne off. */
+  off: Pair;
   /** Null if the board has no position: then `noPosition` says why. */
   phase: Phase | null;
   noPosition: 'NotYou' | 'TooManyOwn' | 'TooManyOther' | null;
   /** Each side's checkers in its own numbers: those borne off, the places 1 to 24, the bar. */
   checkers: [number[], number[]] | null;
+  /** How many pips each side has to go; null if the board has no position. */
+  pips: Pair | null;
 }
 
 export interface OwnInfo {
@@ -85,6 +91,13 @@ export interface Line { text: string; cut: boolean; reading: Reading }
 /** A decision that waits, and the line of the board on which it was made. */
 export interface Outstanding { command: string; board: string }
 
+/** Why a board does not allow a decision. */
+export type Disallowed = 'NotYours' | 'WrongKind' | 'IllegalPlay';
+
+/** Why a client refuses. */
+export type Refusal = Disallowed | 'AlreadyOpen' | 'Offline' | 'NotReady' | 'ServerPlays' | 'NoBoard' | 'Waiting'
+  | 'NotOn' | 'AlreadyOrdered' | 'NotOrdered';
+
 /** A line that a client has heard. */
 export interface Heard extends Line {
   /** The decision that the line, a board, confirms. */
@@ -95,8 +108,11 @@ export interface Heard extends Line {
   send: string;
 }
 
-/** A refusal, or what is wrong with an input: `name` says which. */
-export class FibsError extends Error {}
+/** A refusal, or what is wrong with an input: `name` says which, `message` in a sentence. */
+export class FibsError extends Error {
+  name: Refusal | Fault | 'NotYou' | 'TooManyOwn' | 'TooManyOther' | 'BadText' | 'TooLong' | 'NotBytes' | 'Full'
+    | 'Memory' | 'NotADecision' | 'NotPlain' | 'Taken' | 'NoEffect' | 'Closed';
+}
 
 /** What a line says. */
 export function read(line: Bytes): Reading;
@@ -104,10 +120,22 @@ export function read(line: Bytes): Reading;
 /** The legal plays of a board, as commands, the greatest first. */
 export function plays(line: Bytes): string[];
 
+/** Why a board does not allow a decision, as `roll` or `move 8-5 6-5`; null if it does. */
+export function refusal(line: Bytes, command: Bytes): Disallowed | null;
+
+/** The board after the server carried out a decision; a roll throws the dice. A play need not be legal. */
+export function after(line: Bytes, command: Bytes, dice?: Pair): Board;
+
+/** The same board with the sides exchanged, as if the user were the opponent: its plays are the opponent's. */
+export function turned(line: Bytes): Board;
+
+/** Whether two boards differ in what the game is: then the other one ends the waiting of a decision on the first. */
+export function differs(line: Bytes, other: Bytes): boolean;
+
 /** The lines of a stream that comes in pieces. */
 export class Lines {
-  /** The lines that end in a piece. */
-  feed(piece: Bytes): Line[];
+  /** The lines that end in a piece, each read when it is taken. Those that are left come first in the next call. */
+  feed(piece: Bytes): IterableIterator<Line>;
   /** What follows the last line end. */
   get unfinished(): string;
   /** Forgets it. */
@@ -127,15 +155,28 @@ export class Directory {
 
 /** A client: it is given what comes, and says what is to be sent, as it is. It opens no connection. */
 export class Client {
-  constructor(name: string, password: string);
+  constructor(name: Bytes, password: Bytes);
   /** A connection was made: the login. */
   open(): string;
-  /** The lines that end in a piece, and what is to be sent after each. */
-  feed(piece: Bytes): Heard[];
+  /** The lines that end in a piece, and what is to be sent after each. A line is heard when it is taken; those that are
+   * left come first in the next call. Without a connection all bytes are dropped. */
+  feed(piece: Bytes): IterableIterator<Heard>;
   /** A decision, as `roll` or `move 8-5 6-5`. It then waits. */
   decide(command: Bytes): string;
   /** Another command, as `say hello`. */
   plain(command: Bytes): string;
+  /** A line of your own: `leave`, `watch bob`, `accept` or `reject` as the answer to an offer to resign. The client
+   * does not know of it. A line that it would take itself, or that decides in the game, is refused (`Taken`). */
+  ownLine(line: Bytes): string;
+  /** Any line: for a decision that waits since the server refused it by a text, and that the user makes once more. What
+   * the client promises of decisions does not hold of it. */
+  unguardedLine(line: Bytes): string;
+  /** Why `decide` would refuse the command now; null if it would take it. */
+  refusal(command: Bytes): Refusal | null;
+  /** The state of the connection. While it is `login` the server may take what is sent for a name or a password. */
+  get state(): 'offline' | 'login' | 'ready' | 'serverPlays';
+  /** Whether the login is answered. */
+  get ready(): boolean;
   /** From now on it rolls by itself on a board on which the player may not double. */
   orderRoll(): void;
   withdrawRoll(): void;

@@ -75,8 +75,8 @@ const turnTo = (wanted) => {
 
 at('file').addEventListener('change', async () => {
   const lines = new Lines();
-  const session = new Uint8Array(await at('file').files[0].arrayBuffer());
-  boards = lines.feed(session).map((line) => line.reading).filter((reading) => reading.kind === 'board');
+  const session = await at('file').files[0].arrayBuffer();
+  boards = [...lines.feed(session)].map((line) => line.reading).filter((reading) => reading.kind === 'board');
   lines.close();
   turnTo(0);
 });
@@ -163,7 +163,7 @@ at('login').addEventListener('submit', (event) => {
   socket = here;
   here.binaryType = 'arraybuffer';
   here.addEventListener('open', () => send(client.open()));
-  here.addEventListener('message', ({ data }) => here === socket && hear(new Uint8Array(data)));
+  here.addEventListener('message', ({ data }) => here === socket && hear(data));
   here.addEventListener('close', () => {
     if (here !== socket) return;
     const lost = client.lose();

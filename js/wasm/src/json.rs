@@ -16,6 +16,11 @@ impl Json {
         json.out
     }
 
+    /// How many bytes are written.
+    pub fn len(&self) -> usize {
+        self.out.len()
+    }
+
     /// Something that is JSON as it is.
     pub fn raw(&mut self, text: &str) {
         self.out.push_str(text);
@@ -115,7 +120,7 @@ impl Json {
                 self.key("kind").raw("\"malformed\"");
                 self.key("number").raw(&number.to_string());
                 self.key("field").raw(&field.to_string());
-                self.key("fault").raw(&format!("\"{fault}\""));
+                self.key("fault").raw(&format!("\"{}\"", fault.name()));
             }
         }
         self.close('}');
@@ -124,7 +129,7 @@ impl Json {
     fn board(&mut self, board: &Board) {
         let get = |n: usize| board.get(n).unwrap_or(0);
         self.key("kind").raw("\"board\"");
-        self.key("line").text(&board.print());
+        self.key("line").text(board.to_string().as_bytes());
         self.texts(&[("player", board.player().bytes()), ("opponent", board.opponent().bytes())]);
         match get(field::MATCH_LENGTH) {
             9999 => self.key("length").raw("null"),
@@ -144,7 +149,9 @@ impl Json {
             ("mayDouble", get(field::MAY_DOUBLE) == 1),
             ("opponentMayDouble", get(field::OTHER_MAY_DOUBLE) == 1),
             ("wasDoubled", get(field::WAS_DOUBLED) == 1),
+            ("matchOver", board.is_match_over()),
         ]);
+        self.key("off").list([board.off(), board.opponent_off()], |json, count| json.raw(&count.to_string()));
         self.position(board);
     }
 
@@ -160,8 +167,9 @@ impl Json {
         match Position::of(board) {
             Err(why) => {
                 self.key("phase").raw("null");
-                self.key("noPosition").raw(&format!("\"{why}\""));
+                self.key("noPosition").raw(&format!("\"{}\"", why.name()));
                 self.key("checkers").raw("null");
+                self.key("pips").raw("null");
             }
             Ok(position) => {
                 self.key("phase").raw(&format!("\"{}\"", position.phase()));
@@ -176,6 +184,8 @@ impl Json {
                 self.key("checkers").list([own, other], |json, side| {
                     json.list(side, |json, count| json.raw(&count.to_string()));
                 });
+                let (own, other) = board.pips().unwrap_or_default();
+                self.key("pips").list([own, other], |json, pips| json.raw(&pips.to_string()));
             }
         }
     }
@@ -209,6 +219,7 @@ impl Json {
             Message::YouShout { text } | Message::YouWhisper { text } | Message::YouKibitz { text } => {
                 self.texts(&[("text", text)]);
             }
+            _ => {}
         }
     }
 
@@ -294,5 +305,6 @@ fn name_of(message: &Message<'_>) -> &'static str {
         Message::YouShout { .. } => "youShout",
         Message::YouWhisper { .. } => "youWhisper",
         Message::YouKibitz { .. } => "youKibitz",
+        _ => "another",
     }
 }

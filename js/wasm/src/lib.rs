@@ -7,19 +7,44 @@ mod engines;
 mod json;
 
 use fibs::{
-    Board, Client, Decision, Direction, Directory, Lines, Login, Outstanding, Position, Reading, decision_text,
-    read_command, read_plain,
+    AllocError, Board, Client, ConnectionState, Decision, Direction, Directory, DirectoryFault, Disallowed, FieldFault,
+    Lines, Login, Outstanding, OwnLineRefusal, PlainFault, PlainRefusal, Position, PositionFault, Reading, Refusal,
+    decision_text, read_command, read_plain,
 };
 use json::Json;
-use std::fmt::Display;
+use std::mem;
 use std::sync::Mutex;
 
 /// What JavaScript holds by a number.
 enum Object {
-    Lines(Box<Lines>),
+    Lines(Box<Lines>, Piece),
     Directory(Directory),
-    Client(Box<Client>, Directory),
+    Client(Box<Client>, Directory, Piece),
 }
+
+/// A piece of a stream: the bytes from a place on are not read yet.
+#[derive(Default)]
+struct Piece {
+    bytes: Vec<u8>,
+    at: usize,
+}
+
+impl Piece {
+    fn rest(&self) -> &[u8] {
+        self.bytes.get(self.at..).unwrap_or_default()
+    }
+
+    /// So many bytes are left. Of a piece that is read nothing is kept.
+    fn leave(&mut self, left: usize) {
+        self.at = self.bytes.len().saturating_sub(left);
+        if left == 0 {
+            *self = Piece::default();
+        }
+    }
+}
+
+/// How many bytes of lines are answered at once, about.
+const ANSWERED: usize = 1 << 15;
 
 struct State {
     input: Vec<u8>,
@@ -78,14 +103,75 @@ pub extern "C" fn plays() {
 }
 
 fn plays_of(line: &[u8]) -> Result<String, String> {
-    let board = Board::read(line).map_err(|why| fault(why.fault))?;
-    let position = Position::of(&board).map_err(fault)?;
+    let position = Position::of(&board_of(line)?).map_err(fault)?;
     let plays = position.plays().map_err(fault)?;
     Ok(Json::of(|json| {
         json.list(plays, |json, play| {
             json.text(decision_text(&Decision::Move(play), position.direction()).as_bytes());
         });
     }))
+}
+
+fn board_of(line: &[u8]) -> Result<Board, String> {
+    Board::read(line).map_err(fault)
+}
+
+fn board_json(board: &Board) -> String {
+    Json::of(|json| json.reading(&board.to_string().into_bytes(), &Reading::Board(*board)))
+}
+
+/// The line of a board, and what follows it after a line end.
+fn parts(input: &[u8]) -> (&[u8], &[u8]) {
+    let end = input.iter().position(|byte| *byte == b'\n').unwrap_or(input.len());
+    (&input[..end], input.get(end + 1..).unwrap_or_default())
+}
+
+/// The board in the input, and the decision whose command follows it.
+fn decided(input: &[u8]) -> Result<(Board, Decision), String> {
+    let (line, command) = parts(input);
+    let board = board_of(line)?;
+    let decision = read_command(command, board.direction()).ok_or_else(|| own_fault(NO_DECISION))?;
+    Ok((board, decision))
+}
+
+/// Why the board in the input does not allow the decision that follows it, or nothing.
+#[unsafe(no_mangle)]
+pub extern "C" fn refusal() {
+    answer(|input| refusal_of(input).unwrap_or_else(|why| why));
+}
+
+fn refusal_of(input: &[u8]) -> Result<String, String> {
+    let (board, decision) = decided(input)?;
+    Ok(name_of(board.refusal(&decision).map_err(fault)?))
+}
+
+/// The board after the decision that follows it in the input, and these dice.
+#[unsafe(no_mangle)]
+pub extern "C" fn after(first: u32, second: u32) {
+    answer(|input| after_of(input, [first, second]).unwrap_or_else(|why| why));
+}
+
+fn after_of(input: &[u8], dice: [u32; 2]) -> Result<String, String> {
+    let (board, decision) = decided(input)?;
+    let dice = dice.map(|die| u8::try_from(die).unwrap_or_default());
+    board.after(&decision, dice).map(|board| board_json(&board)).ok_or_else(|| own_fault(NO_EFFECT))
+}
+
+/// The board in the input with the sides exchanged.
+#[unsafe(no_mangle)]
+pub extern "C" fn turned() {
+    answer(|line| board_of(line).map(|board| board_json(&board.turned())).unwrap_or_else(|why| why));
+}
+
+/// Whether the two boards in the input differ in what the game is.
+#[unsafe(no_mangle)]
+pub extern "C" fn differs() {
+    answer(|input| differs_of(input).unwrap_or_else(|why| why));
+}
+
+fn differs_of(input: &[u8]) -> Result<String, String> {
+    let (line, other) = parts(input);
+    Ok(board_of(line)?.differs(&board_of(other)?).to_string())
 }
 
 /// Keeps an object, and says its number.
@@ -95,13 +181,14 @@ fn keep(state: &mut State, object: Object) -> usize {
         state.objects.push(None);
     }
     state.objects[place] = Some(object);
+    state.output = "null".into();
     place + 1
 }
 
 /// A reader of lines.
 #[unsafe(no_mangle)]
 pub extern "C" fn new_lines() -> usize {
-    with(|state| keep(state, Object::Lines(Box::new(Lines::new()))))
+    with(|state| keep(state, Object::Lines(Box::new(Lines::new()), Piece::default())))
 }
 
 /// A directory of players.
@@ -116,7 +203,10 @@ pub extern "C" fn new_client(name_len: usize) -> usize {
     with(|state| {
         let (name, password) = state.input.split_at(name_len.min(state.input.len()));
         match Login::new(name, password) {
-            Ok(login) => keep(state, Object::Client(Box::new(Client::new(login)), Directory::new())),
+            Ok(login) => {
+                let client = Box::new(Client::new(login));
+                keep(state, Object::Client(client, Directory::new(), Piece::default()))
+            }
             Err(why) => {
                 state.output = fault(why);
                 0
@@ -140,32 +230,58 @@ pub extern "C" fn free(id: usize) {
 pub extern "C" fn call(id: usize, what: u32) {
     with(|state| {
         state.output = match state.objects.get_mut(id.wrapping_sub(1)) {
-            Some(Some(Object::Lines(lines))) => of_lines(lines, what, &state.input),
+            Some(Some(Object::Lines(lines, piece))) => of_lines(lines, piece, what, &mut state.input),
             Some(Some(Object::Directory(directory))) => of_directory(directory, what, &state.input),
-            Some(Some(Object::Client(client, directory))) => of_client(client, directory, what, &state.input),
-            _ => fault("Closed"),
+            Some(Some(Object::Client(client, directory, piece))) => {
+                of_client(client, directory, piece, what, &mut state.input)
+            }
+            _ => own_fault(CLOSED),
         };
     });
 }
 
-fn of_lines(lines: &mut Lines, what: u32, piece: &[u8]) -> String {
+/// The input is the next piece; what is left of the piece before was read.
+fn give(piece: &mut Piece, input: &mut Vec<u8>) -> String {
+    *piece = Piece { bytes: mem::take(input), at: 0 };
+    "null".into()
+}
+
+fn of_lines(lines: &mut Lines, piece: &mut Piece, what: u32, input: &mut Vec<u8>) -> String {
     match what {
-        0 => Json::of(|json| {
-            json.open('[');
-            lines.each(piece, |line| {
-                // a line that was cut is a text, as a client hears it
-                let reading = if line.cut { Reading::Text(line.bytes) } else { fibs::read(line.bytes) };
-                json.line(line.bytes, line.cut, &reading);
-                json.close('}');
-            });
-            json.close(']');
-        }),
-        1 => Json::of(|json| json.text(lines.unfinished())),
+        0 => give(piece, input),
+        1 => next_lines(lines, piece),
+        2 => Json::of(|json| json.text(lines.unfinished())),
         _ => {
             lines.reset();
+            *piece = Piece::default();
             "null".into()
         }
     }
+}
+
+/// The next lines of a piece, or nothing if none ends.
+fn next_lines(lines: &mut Lines, piece: &mut Piece) -> String {
+    let mut rest = piece.rest();
+    let found = Json::of(|json| {
+        while json.len() < ANSWERED && !rest.is_empty() {
+            let fed = lines.feed(rest);
+            rest = rest.get(fed.used..).unwrap_or_default();
+            if let Some(line) = fed.line {
+                if json.len() == 0 {
+                    json.open('[');
+                }
+                json.line(line.bytes, line.cut, &line.reading());
+                json.close('}');
+            }
+        }
+        match json.len() {
+            0 => json.raw("null"),
+            _ => json.close(']'),
+        }
+    });
+    let left = rest.len();
+    piece.leave(left);
+    found
 }
 
 fn of_directory(directory: &mut Directory, what: u32, input: &[u8]) -> String {
@@ -186,63 +302,98 @@ fn of_directory(directory: &mut Directory, what: u32, input: &[u8]) -> String {
     }
 }
 
-fn of_client(client: &mut Client, directory: &mut Directory, what: u32, input: &[u8]) -> String {
+fn of_client(
+    client: &mut Client,
+    directory: &mut Directory,
+    piece: &mut Piece,
+    what: u32,
+    input: &mut Vec<u8>,
+) -> String {
     match what {
-        0 => {
+        0 => give(piece, input),
+        1 => next_heard(client, directory, piece),
+        2 => Json::of(|json| json.text(client.unfinished())),
+        3 => {
             let opened = client.open();
             sent(client, opened)
         }
-        1 => feed(client, directory, input),
-        2 => match read_command(input, client.shown().map_or(Direction::Down, Direction::of)) {
+        4 => match read_command(input, client.shown().map_or(Direction::Down, Direction::of)) {
             Some(decision) => {
                 let decided = client.decide(&decision);
                 sent(client, decided)
             }
-            None => fault("NotADecision"),
+            None => own_fault(NO_DECISION),
         },
-        3 => match read_plain(input) {
+        5 => match read_plain(input) {
             Some(plain) => {
                 let taken = client.plain(&plain);
                 sent(client, taken)
             }
-            None => fault("NotPlain"),
+            None => own_fault(NOT_PLAIN),
         },
-        4 => done(client.order_roll()),
-        5 => done(client.withdraw_roll()),
-        6 => {
+        6 => done(client.order_roll()),
+        7 => done(client.withdraw_roll()),
+        8 => {
             let lost = client.lose();
             directory.clear();
-            Json::of(|json| outstanding(json, lost.as_ref()))
+            *piece = Piece::default();
+            Json::of(|json| match lost {
+                None => json.raw("null"),
+                // what was given out was sent, as far as this module knows
+                Some(lost) => waits(json, &lost.command(), &lost.board),
+            })
         }
-        7 => Json::of(|json| match client.shown() {
-            Some(board) => json.reading(&board.print(), &Reading::Board(*board)),
+        9 => Json::of(|json| match client.shown() {
+            Some(board) => json.raw(&board_json(board)),
             None => json.raw("null"),
         }),
-        8 => Json::of(|json| outstanding(json, client.waiting())),
-        9 => client.is_ordered().to_string(),
-        10 => Json::of(|json| json.text(client.unfinished())),
-        _ => players_of(directory),
+        10 => Json::of(|json| outstanding(json, client.waiting())),
+        11 => client.is_ordered().to_string(),
+        12 => players_of(directory),
+        13 => {
+            let taken = client.own_line(input);
+            sent(client, taken)
+        }
+        14 => {
+            let taken = client.unguarded_line(input);
+            sent(client, taken)
+        }
+        15 => match read_command(input, client.shown().map_or(Direction::Down, Direction::of)) {
+            Some(decision) => name_of(client.refusal(&decision)),
+            None => own_fault(NO_DECISION),
+        },
+        _ => Json::of(|json| {
+            json.text(match client.state() {
+                ConnectionState::Offline => b"offline",
+                ConnectionState::Login => b"login",
+                ConnectionState::ServerPlays => b"serverPlays",
+                _ => b"ready",
+            });
+        }),
     }
 }
 
-/// The lines that a piece ends, with what is to be sent after each.
-fn feed(client: &mut Client, directory: &mut Directory, mut piece: &[u8]) -> String {
-    Json::of(|json| {
-        json.open('[');
-        while let Some(heard) = client.hear(&mut piece) {
-            if let Reading::Numbered(message) = &heard.reading {
-                // a directory that is full lists no further player
-                let _ = directory.note(message);
-            }
-            json.line(heard.line.bytes, heard.line.cut, &heard.reading);
-            outstanding(json.key("confirmed"), heard.confirmed.as_ref());
-            json.key("rolled").raw(&heard.rolled.to_string());
-            json.key("send");
-            json.text(&outgoing(client));
-            json.close('}');
+/// The next line that the client hears, with what is to be sent after it; or nothing if none ends.
+fn next_heard(client: &mut Client, directory: &mut Directory, piece: &mut Piece) -> String {
+    let mut rest = piece.rest();
+    let found = Json::of(|json| {
+        let Some(heard) = client.hear(&mut rest) else {
+            return json.raw("null");
+        };
+        if let Reading::Numbered(message) = &heard.reading {
+            // a directory that is full lists no further player
+            let _ = directory.note(message);
         }
-        json.close(']');
-    })
+        json.line(heard.line.bytes, heard.line.cut, &heard.reading);
+        outstanding(json.key("confirmed"), heard.confirmed.as_ref());
+        json.key("rolled").raw(&heard.rolled.to_string());
+        json.key("send");
+        json.text(&outgoing(client));
+        json.close('}');
+    });
+    let left = rest.len();
+    piece.leave(left);
+    found
 }
 
 /// What a client hands out, which is then sent.
@@ -252,15 +403,18 @@ fn outgoing(client: &mut Client) -> Vec<u8> {
     bytes
 }
 
+/// A decision that waits.
+fn waits(json: &mut Json, command: &str, board: &Board) {
+    json.open('{');
+    json.key("command").text(command.as_bytes());
+    json.key("board").text(board.to_string().as_bytes());
+    json.close('}');
+}
+
 fn outstanding(json: &mut Json, outstanding: Option<&Outstanding>) {
     match outstanding {
         None => json.raw("null"),
-        Some(waiting) => {
-            json.open('{');
-            json.key("command").text(waiting.command().as_bytes());
-            json.key("board").text(&waiting.board.print());
-            json.close('}');
-        }
+        Some(waiting) => waits(json, &waiting.command(), &waiting.board),
     }
 }
 
@@ -269,7 +423,7 @@ fn players_of(directory: &Directory) -> String {
 }
 
 /// What is to be sent, or why nothing is.
-fn sent<E: Display>(client: &mut Client, given: Result<(), E>) -> String {
+fn sent<E: Refused>(client: &mut Client, given: Result<(), E>) -> String {
     match given {
         Ok(()) => Json::of(|json| json.text(&outgoing(client))),
         Err(why) => fault(why),
@@ -277,11 +431,72 @@ fn sent<E: Display>(client: &mut Client, given: Result<(), E>) -> String {
 }
 
 /// Nothing, or why it was not done.
-fn done<E: Display>(given: Result<(), E>) -> String {
+fn done<E: Refused>(given: Result<(), E>) -> String {
     given.map_or_else(fault, |()| "null".into())
 }
 
-/// A refusal, which JavaScript throws.
-fn fault(why: impl Display) -> String {
-    format!("{{\"refused\":\"{why}\"}}")
+/// Why something is refused: a name, and a sentence.
+trait Refused {
+    fn named(&self) -> &'static str;
+    fn says(&self) -> String;
 }
+
+macro_rules! refused {
+    ($($name:ident),*) => {
+        $(impl Refused for $name {
+            fn named(&self) -> &'static str {
+                self.name()
+            }
+
+            fn says(&self) -> String {
+                self.to_string()
+            }
+        })*
+    };
+}
+
+refused!(DirectoryFault, Disallowed, OwnLineRefusal, PlainFault, PlainRefusal, PositionFault, Refusal);
+
+impl Refused for FieldFault {
+    fn named(&self) -> &'static str {
+        self.fault.name()
+    }
+
+    fn says(&self) -> String {
+        self.to_string()
+    }
+}
+
+impl Refused for AllocError {
+    fn named(&self) -> &'static str {
+        "Memory"
+    }
+
+    fn says(&self) -> String {
+        "memory ran out".into()
+    }
+}
+
+/// A refusal, which JavaScript throws.
+fn fault(why: impl Refused) -> String {
+    own_fault((why.named(), &why.says()))
+}
+
+fn own_fault((name, says): (&str, &str)) -> String {
+    Json::of(|json| {
+        json.open('{');
+        json.key("refused").text(name.as_bytes());
+        json.key("says").text(says.as_bytes());
+        json.close('}');
+    })
+}
+
+/// The name of a refusal, or nothing.
+fn name_of(why: Option<impl Refused>) -> String {
+    why.map_or_else(|| "null".into(), |why| format!("\"{}\"", why.named()))
+}
+
+const NO_DECISION: (&str, &str) = ("NotADecision", "the text is not the command of a decision");
+const NOT_PLAIN: (&str, &str) = ("NotPlain", "the text is not one of the plain commands");
+const NO_EFFECT: (&str, &str) = ("NoEffect", "the server does not carry the decision out on the board");
+const CLOSED: (&str, &str) = ("Closed", "it was closed");
