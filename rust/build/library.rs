@@ -33,6 +33,7 @@ pub const BY_HAND: &[(&str, &str, &str)] = &[
     ("fibs_engine", "connections/logging", ""),
     ("fibs_engine", "noting", ""),
     ("fibs_engine", "connections/pacing", ""),
+    ("fibs_engine", "connections/questions", ""),
     ("fibs_engine", "retrying", ""),
     ("fibs_engine", "standard", ""),
     ("fibs_c", "records/client_handle", "pub use crate::handles::ClientHandle;\n"),

@@ -2,8 +2,10 @@
 
 import time
 
-from people import LOGIN, PASSWORD, PROGRAM, WELCOME, Person, Reader, greeted, leaves, logs_in, same, with_listener
+from people import (FAR, LOGIN, PASSWORD, PROGRAM, WELCOME, Person, Reader, Served, begun, greeted, leaves, logs_in,
+                    named, same, with_listener)
 from play import NO_PASSWORD
+from terminals import KINDS
 
 SCENES = []
 
@@ -69,14 +71,50 @@ def a_server_that_is_slow_to_log_in(server):
 
 @scene
 def a_server_that_refuses_a_login(server):
-    """What it says of it is shown though nothing is typed, and so is that nobody is logged in; no decision goes out."""
+    """What it says of it is shown though nothing is typed, within a second, and so is that nobody is logged in; then the
+    program ends, and its status says so. However the two questions come: the first may have come with the second."""
+    for pieces in [[b'login: ', b'\r\n** User not known or wrong password.\r\nlogin: '],
+                   [b'login: ', b'\r\nlogin: '], [b'login: \r\nlogin: '], [b'log', b'in: \r', b'\nlogin:', b' ']]:
+        ann = Person(server.port)
+        logs_in(server)
+        server.send_bytes(b'Welcome to a strict one.\r\n' + pieces[0])
+        ann.reads('strict one')
+        for piece in pieces[1:]:
+            time.sleep(0.1)
+            server.send_bytes(piece)
+        began = time.monotonic()
+        ann.reads('Not logged in: wrong name or password?')
+        ann.ends(3)
+        same('within a second after %r' % pieces, time.monotonic() - began < 1, True)
+        same('how often', len([row for row in ann.lines() if 'Not logged in' in row]), 1)
+        same('all that was received', server.received, [LOGIN])
+        server.received.clear()
+        ann.close()
+
+
+@scene
+def a_server_that_asks_twice_before_it_reads_the_login(server):
+    """And greets the user soon: nothing was refused."""
+    for pieces in [b'login: \r\nlogin: '], [b'login: ', b'\r\nlogin: ']:
+        ann = Person(server.port)
+        logs_in(server)
+        for piece in pieces:
+            server.send_bytes(piece)
+            time.sleep(0.1)
+        server.send('', WELCOME)
+        ann.reads('Welcome, ann')
+        same('what is wrong', [row for row in ann.lines() if 'Not logged in' in row], [])
+        ann.close()
+
+
+@scene
+def a_server_that_does_not_greet(server):
+    """It asks for the login that was sent, tells of others, and says no more: nobody may be logged in. No decision goes
+    out."""
     ann = Person(server.port)
     logs_in(server)
-    server.send_bytes(b'Welcome to a strict one.\r\nlogin: ')
-    ann.reads('strict one')
-    server.send_bytes(b'\r\n** User not known or wrong password.\r\nlogin: ')
-    ann.reads('** User not known or wrong password.')
-    ann.reads('Not logged in: wrong name or password?')
+    server.send_bytes(b'login: ')
+    time.sleep(2.5)
     for line in '7 bob bob logs in.', '8 eve eve drops connection.', '12 bob hi':
         time.sleep(0.5)
         server.send(line)
@@ -92,3 +130,32 @@ def a_server_that_refuses_a_login(server):
     ann.ends(0)
     same('all that was received', server.received, [LOGIN])
     ann.close()
+
+
+def a_password_is_asked_for_again(*options):
+    """By fibs-play, within a second of the answer, with rlwrap and without: three times, as by ssh."""
+    for kind in KINDS:
+        for given in ([PASSWORD], ['mistaken', PASSWORD], ['two words', 'mistaken', PASSWORD], ['mistaken'] * 3):
+            server = Served('--account', 'ann:' + PASSWORD, '--no-changes', *options)
+            ann = begun(server, kind, password=False)
+            for password in given:
+                ann.sees('password: ')
+                same('the terminal shows what is typed', ann.echoes(), False)
+                began = time.monotonic()
+                ann.type(password)
+            if given[-1] == PASSWORD:
+                ann.is_shown('Welcome, ann')
+                ann.type('quit')
+                ann.ends(0)
+            else:
+                ann.ends(3)
+                same('within a second, and the way', time.monotonic() - began < 2, True)
+            same('rows after %r' % given, ann.plain().count('Not logged in'), given.count('mistaken'))
+            same('a password is shown', [one for one in given if one in ann.screen()], [])
+            same('the terminal is as it was', (ann.echoes(), ann.interrupts()), (True, b'\x03'))
+            ann.close()
+            server.close()
+
+
+SCENES += [a_password_is_asked_for_again,
+           named(lambda: a_password_is_asked_for_again(*FAR), a_password_is_asked_for_again, '_far_away')]

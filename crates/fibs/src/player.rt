@@ -4,6 +4,7 @@
 mod devices;
 pub(crate) mod ordering;
 mod playing;
+mod refusing;
 pub mod showing;
 mod streams;
 

@@ -7,3 +7,4 @@ pub mod dial;
 pub mod link;
 pub mod logging;
 pub mod pacing;
+pub mod questions;

@@ -19,4 +19,4 @@ pub mod status;
 pub mod stream_fault;
 pub mod writing;
 
-pub use connections::{attention, dial, link, logging, pacing};
+pub use connections::{attention, dial, link, logging, pacing, questions};

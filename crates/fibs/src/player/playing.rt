@@ -1,6 +1,6 @@
 //! A person plays.
 
-use crate::player::ordering::{OrderedInput, OrderedServer, OrderedWatch};
+use crate::player::ordering::{Dues, OrderedInput, OrderedServer, OrderedWatch};
 use fibs_cli::arguments::Call;
 use fibs_cli::objects::front::Objects;
 use fibs_connect::typed_line::TypedLine;
@@ -21,7 +21,6 @@ use fibs_terminal::Terminal;
 use fibs_wording::environment::{Clocks, Config, terminal_settings};
 use fibs_wording::reasons::append_login_fault;
 use std::alloc::Global;
-use std::cell::Cell;
 use std::io::{IsTerminal, Read, Stdout, Write};
 use std::net::{Net, TcpListener, TcpStream};
 use std::time::{Clock, Duration};
@@ -66,8 +65,8 @@ fn say_login_fault(rt: &HostRuntime, why: PlainFault) -> Result<u8, EngineFault>
     Ok(Status::Refused.code())
 }
 
-/// Answers typed lines at a terminal, and gives the standing order if the user's own settings ask for it. At the end
-/// the window has the title that it had before.
+/// Answers typed lines at a terminal, and gives the standing order if the user's own settings ask for it; ends if the
+/// server refuses the login. At the end the window has the title that it had before.
 fn answer_at_terminal<D: Dial, R: Read, V: Watch, W: Write + Drop, C: Clock + Drop>(
     server: &mut D,
     alloc: Global,
@@ -77,15 +76,19 @@ fn answer_at_terminal<D: Dial, R: Read, V: Watch, W: Write + Drop, C: Clock + Dr
     watch: &mut V,
     front: &mut Terminal<'_, W, C>,
     orders_roll: bool,
-    is_due: &Cell<bool>,
+    dues: &Dues,
 ) -> Result<u8, EngineFault> {
-    let mut server = OrderedServer::new(server, orders_roll, is_due);
-    let mut watch = OrderedWatch::new(watch, is_due);
+    let mut server = OrderedServer::new(server, orders_roll, dues);
+    let mut watch = OrderedWatch::new(watch, dues);
     let answer = answer_lines(&mut server, alloc, login, lines, input, &mut watch, front);
     let left = front.leave();
     let status = unless_memory_ran_out(answer, front)?;
     left?;
-    Ok(status)
+    Ok(if dues.end.get() {
+        Status::Refused.code()
+    } else {
+        status
+    })
 }
 
 /// Talks with a server at a terminal. The first line is the password.
@@ -104,8 +107,8 @@ fn play_at_terminal<D: Dial, R: Read, V: Watch>(
     let mut lines = TypedLines::new(MOST_INPUT_READS);
     let mut line = TypedLine::new();
     // what is read with the password may begin a line
-    let is_due = Cell::new(false);
-    let mut input = OrderedInput::new(input, &is_due);
+    let dues = Dues::new();
+    let mut input = OrderedInput::new(input, &dues);
     lines.read_line(&mut input, &mut line)?;
     let login = match Login::new(call.name.as_bytes(), line.as_slice()) {
         Err(why) => return say_login_fault(rt, why),
@@ -123,7 +126,7 @@ fn play_at_terminal<D: Dial, R: Read, V: Watch>(
         watch,
         &mut front,
         config.orders_roll(),
-        &is_due,
+        &dues,
     )
 }
 

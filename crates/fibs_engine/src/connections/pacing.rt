@@ -7,6 +7,7 @@ use crate::attention::{Attention, Pace};
 use crate::dial::{Dial, TcpDial};
 use crate::limits::READ_PORTION;
 use crate::link::{Link, is_quiet};
+use crate::questions::Questions;
 use arrayvec::ArrayVec;
 use fibs_lines::{LOGIN_PROMPT, Lines};
 use std::io;
@@ -20,6 +21,9 @@ const READS_AT_ONCE: u32 = 64;
 /// How many milliseconds to wait for a server that asks for the login: it was sent, and the answer is on its way.
 const LOGIN_MILLIS: u64 = 2000;
 
+/// The part of it for which a server is heard that asks once more, and so may have refused the login: one in so many.
+const ASKED_AGAIN: u64 = 4;
+
 /// With what the line begins in which a server greets the user.
 const GREETING: &[u8] = b"1 ";
 
@@ -30,7 +34,8 @@ const GREETING: &[u8] = b"1 ";
 /// Once it is not quiet for a while: if the last that came is the question for the login, and the user was not greeted
 /// on this connection. Whatever comes meanwhile is kept, up to the greeting, so that a turn that ends then was not
 /// answered, and the question is what was heard last. What was kept is read after that; but if it ends in the question
-/// itself, as if the server refuses the login, it is read before the turn ends.
+/// itself, as if the server refuses the login, it is read before the turn ends. If the server asks once more it is not
+/// waited for so long.
 #[derive(Drop)]
 pub struct Paced<S: Link + Drop> {
     stream: S,
@@ -48,6 +53,8 @@ pub struct Paced<S: Link + Drop> {
     greeted: bool,
     /// The server has asked for the login, which was not waited for.
     asked: bool,
+    /// Whether it asks once more.
+    questions: Questions,
     /// What came after the question, and is not yet read.
     kept: ArrayVec<u8, READ_PORTION>,
 }
@@ -64,12 +71,14 @@ impl<S: Link + Drop> Paced<S> {
             lines: Lines::new(),
             greeted: false,
             asked: false,
+            questions: Questions::new(),
             kept: ArrayVec::new(),
         }
     }
 
     /// Hears what has come before the greeting: whether the user is greeted, and whether the server asks for the login.
     fn hear(&mut self, bytes: &[u8]) {
+        self.questions.hear(bytes);
         let mut rest = bytes;
         while !rest.is_empty() {
             let fed = self.lines.feed(rest);
@@ -149,10 +158,17 @@ impl<S: Link + Drop> Paced<S> {
     fn receive_answer(&mut self, buf: &mut [u8]) -> io::Result<usize>
         ensures { ReadsAtMost result buf.new }
     {
+        let mut left = self.patience / ASKED_AGAIN;
         for _ in 0..self.patience {
             match self.keep_more(buf) {
                 Some(answer) => return answer,
                 None => {}
+            }
+            if self.questions.is_again() {
+                if left == 0 {
+                    break;
+                }
+                left -= 1;
             }
         }
         let asks_again = self.asked && !self.kept.is_empty();

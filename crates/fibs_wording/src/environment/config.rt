@@ -7,6 +7,9 @@ use std::fs::{File, metadata};
 use std::io::{ErrorKind, Read};
 use std::{env, io};
 
+/// A path by which one says that there are no settings.
+const NOTHING: &[u8] = b"/dev/null";
+
 /// The longest file that is read.
 const MOST_BYTES: usize = 1 << 16;
 
@@ -135,10 +138,10 @@ fn path_of(rt: &HostRuntime) -> Result<String, AllocError> {
 /// The bytes of the file of a path, if it is there.
 fn file_bytes(rt: &HostRuntime, path: &str) -> Result<Vec<u8>, io::Error> {
     let mut bytes = Vec::new(rt.alloc());
-    if path.is_empty() {
+    if path.is_empty() || path.as_bytes() == NOTHING {
         return Ok(bytes);
     }
-    // a pipe or a device might never end
+    // a pipe or another device might never end
     if !metadata(rt, path)?.is_file() {
         return Err(io::Error::from(ErrorKind::InvalidInput));
     }

@@ -18,6 +18,7 @@ mod outcomes;
 mod play_loop;
 mod plays;
 mod program;
+mod questions;
 mod replay;
 mod retrying;
 mod scripts;
