@@ -3,3 +3,4 @@ pub mod CarriedOut
 pub mod InARow
 pub mod AllowedDecisions
 pub mod Equality
+pub mod OwnNumbers

@@ -1,6 +1,7 @@
 -- What a caller reads: the position that a board of style 3 shows, up to the effect of a decision.
 pub mod First
 pub mod DirectionOf
+pub mod NumbersOf
 pub mod OwnView
 pub mod GoodBoard
 pub mod Watched

@@ -3,6 +3,7 @@
 ghost use Rattle.std.specs.Prelude.{◌≡◌, ◌↔◌, IsTrue};
 ghost use Rattle.fibs_position.specs.DecisionValue.{decision_of};
 ghost use Rattle.fibs_position.specs.Laws.{PhaseIsExact, AllowedIsExact, EffectIsExact, AllowedIsTheUsers, AllowedIsCarriedOut, EffectIsGood, GoodIsExact, SameGameIsExact, SameGameIsALikeness, AllowedDecides, AllowedIsADecision, DecisionsAreValid, AllowedActs, NoThreeInARow};
+ghost use Rattle.fibs_position.specs.NumbersOf.{OwnNumbersAreTurned};
 ghost use Rattle.fibs_position.specs.Watched.{WatchedIsExact, WatchedIsNotGood};
 
 use crate::decision::Decision;
@@ -45,6 +46,12 @@ pub fn directions_are_themselves(a: &Direction, b: &Direction) -> bool
 {
     a == b
 }
+
+/// By a player's own numbers a place has its own number: 25 less the server's, if he goes up by that.
+#[tactic(auto, using(crate::proofs::LawLemmas::OwnNumbers::own_numbers_are_turned))]
+pub fn own_numbers_are_turned()
+    ensures { OwnNumbersAreTurned }
+{}
 
 /// Faults of boards are equal exactly if they are one.
 pub fn position_faults_are_themselves(a: &PositionFault, b: &PositionFault) -> bool
