@@ -2,3 +2,4 @@
 pub mod History
 pub mod Calls
 pub mod Game
+pub mod TypedLemmas

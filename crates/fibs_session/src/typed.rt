@@ -2,5 +2,6 @@
 //! client would take it; and whether it decides in the game, as a server may read it.
 
 pub mod deciding;
+pub mod meant;
 pub mod taking;
 pub mod typing;

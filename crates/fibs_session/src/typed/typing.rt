@@ -2,9 +2,7 @@
 ghost use Rattle.std.specs.Prelude.{◌≡◌};
 ghost use Rattle.fibs_session.specs.History.Machine.{Talk, shown_now};
 ghost use Rattle.fibs_session.specs.Calls.Standing.{StandsAfter};
-ghost use Rattle.fibs_commands.specs.CommandReading.{read_command};
-ghost use Rattle.fibs_commands.specs.PlainReading.{read_plain};
-ghost use Rattle.fibs_session.specs.Typing.{shown_direction, typed_as, typed_now, order_in, is_command};
+ghost use Rattle.fibs_session.specs.Typing.{shown_direction, typed_in, typed_now, order_in, is_command};
 ghost use Rattle.fibs_session.specs.TypedOf.{typed_value};
 
 use crate::{Client, Plain, read_command, read_plain};
@@ -26,7 +24,7 @@ pub enum Typed<'a> {
 }
 
 /// The direction of the board that is shown. Without a board it is that of a player who goes down.
-fn shown_direction(client: &Client) -> Direction
+pub(crate) fn shown_direction(client: &Client) -> Direction
     ensures { (t : Talk) → StandsAfter client.now t → result ≡ shown_direction (shown_now t) }
 {
     client.direction().unwrap_or(Direction::Down)
@@ -47,9 +45,8 @@ fn read_order(text: &[u8]) -> Typed<'_>
 
 /// Reads a line: a decision in the numbers of a board of this direction, or else a plain command, or else a standing
 /// order.
-fn read_in(text: &[u8], direction: Direction) -> Typed<'_>
-    ensures { typed_value result
-        ≡ typed_as (read_command direction text.now) (read_plain text.now) (order_in text.now) }
+pub(crate) fn read_in(text: &[u8], direction: Direction) -> Typed<'_>
+    ensures { typed_value result ≡ typed_in direction text.now }
 {
     if let Some(decision) = read_command(text, direction) {
         return Typed::Decision(decision);
@@ -68,7 +65,7 @@ pub fn read_typed<'a>(client: &Client, text: &'a [u8]) -> Typed<'a>
 }
 
 /// Whether this is a command, or an order.
-fn is_known(typed: &Typed<'_>) -> bool
+pub(crate) fn is_known(typed: &Typed<'_>) -> bool
     ensures { result ≡ is_command (typed_value typed.now) }
 {
     match typed {
