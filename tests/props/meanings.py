@@ -46,6 +46,8 @@ TERMINAL = {
     'moves': r'so far',
     'moves all': r'\ball\b|last 20',
     'columns': r'wide|width',
+    'numbers own': r'\b24\b|\bown\b',
+    'numbers server': r'server',
     'try': r'board after',
     'go': r'sends? ',
     'words': r'in words',

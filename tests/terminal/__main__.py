@@ -21,6 +21,7 @@ import game
 import hints
 import logins
 import logs
+import numbers_of_places
 import offers
 import partners
 import pictures
@@ -50,7 +51,8 @@ def main():
     words = sys.argv[2:]
     beside = (offers.SCENES + resuming.SCENES + refusals.SCENES + hints.SCENES + play.SCENES + logs.SCENES
               + game.SCENES + company.SCENES + partners.SCENES + watching.SCENES + spoken.SCENES + babble.SCENES
-              + anything.SCENES + resized.SCENES + whole.SCENES + logins.SCENES + pictures.SCENES + records.SCENES)
+              + anything.SCENES + resized.SCENES + whole.SCENES + logins.SCENES + pictures.SCENES + records.SCENES
+              + numbers_of_places.SCENES)
     alone = escapes.SCENES + costs.SCENES
     chosen = [[scene for scene in scenes if not words or any(word in scene.__name__ for word in words)]
               for scenes in (beside, alone)]

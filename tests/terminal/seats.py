@@ -74,10 +74,10 @@ def drawn(rows):
 
 
 def is_of(rows, board):
-    """True if a picture shows the checkers of a board line."""
+    """True if a picture shows the checkers of a board line, in the numbers of its player: he goes down."""
     fields = board.split(':')
-    colour = int(fields[41])
-    wanted = {place: colour * int(fields[6 + place]) for place in range(1, 25)}
+    colour, is_up = int(fields[41]), fields[42] == '1'
+    wanted = {25 - place if is_up else place: colour * int(fields[6 + place]) for place in range(1, 25)}
     return drawn(rows) == wanted
 
 
@@ -244,8 +244,8 @@ class Seat:
             return 'right' if any(one.must_act(self.name) for one in moments) else 'false'
         if kind == 'wait':
             return self.verdict_of_waiting(moments, row)
-        lines = [line.removeprefix('send ') for line in lines if line not in ('bye', 'open', 'quit')]
-        taken = [[self.is_taken(one, line) for line in lines] for one in moments]
+        lines = [line for line in lines if line not in ('bye', 'open', 'quit')]
+        taken = [[self.is_taken(one, one.sent_for(self.name, line)) for line in lines] for one in moments]
         if any(all(one) for one in taken):
             return 'right'
         if any(any(one) for one in taken):

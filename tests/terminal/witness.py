@@ -101,6 +101,19 @@ class Moment:
         side = self.side(name)
         return match.turn == side and bool(doublers_of(match, side, self.habits)[0])
 
+    def sent_for(self, name, line):
+        """What goes to the server if the player types a line: he counts the places so that he goes down, and what
+        follows `send` goes as it is."""
+        word, _, rest = line.partition(' ')
+        if word == 'send':
+            return rest
+        if word != 'move' or self.match is None:
+            return line
+        side = self.side(name)
+        steps = [[end if end in ('bar', 'off') else str(self.match.place(side, int(end))) for end in step.split('-')]
+                 for step in rest.split(' ')]
+        return 'move ' + ' '.join(map('-'.join, steps))
+
     def is_legal(self, match, side, rest):
         steps = []
         for step in rest.split(' '):

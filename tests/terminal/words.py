@@ -59,7 +59,7 @@ REFUSED = re.compile(r'.*\[\d+ [A-Z][A-Za-z]+\]|(?:refused|fault) \d+ \w+|unknow
                      r'|[Nn]ot a word of this client.*')
 
 # What went to the server, in full.
-SENT = re.compile(r'sent as it is: (.*)|sent (.*?)(?:, as ordered)?')
+SENT = re.compile(r'sent as it is: (.*)|sent (move .*?) \(in your numbers .*\)|sent (.*?)(?:, as ordered)?')
 
 # What the server says, that one goes by too.
 INVITED = re.compile(r"(?:Type '|\S+ (?:\(.*\) )?invites you to .*: |You are invited: )(join [^\s']+)(?:' to accept\.)?")
@@ -77,4 +77,4 @@ def read(row):
 def sent_by(row):
     """The line that went to the server, if a row says so."""
     found = SENT.fullmatch(row)
-    return (found[1] or found[2]) if found else None
+    return (found[1] or found[2] or found[3]) if found else None

@@ -3,11 +3,13 @@ use Rattle.std.specs.Prelude.{◌≡◌, ◌≢◌, ◌++◌, ◌∷◌, ℕ, Li
 use Rattle.fibs_fields.specs.Board.{BoardFields}
 use Rattle.fibs_position.specs.Allowed.{allowed_of}
 use Rattle.fibs_position.specs.DecisionValue.{DecisionValue, accept, reject, decision_of}
+use Rattle.fibs_position.specs.NumbersOf.{counted}
 use Rattle.fibs_commands.specs.Commands.{command_of}
 use Rattle.fibs_commands.specs.PlainCommands.{automove_off, greedy_off}
 use Rattle.fibs_position.specs.declared.decision.Decision.{Decision}
 use Rattle.fibs_position.specs.declared.decision.Decision.TheVariants as D
 use Rattle.fibs_position.specs.declared.direction.Direction.{Direction}
+use Rattle.fibs_position.specs.declared.numbers.Numbers.{Numbers}
 use Rattle.fibs_session.specs.History.Machine.{Talk, shown_now, unconfirmed_now, plain_refusal}
 use Rattle.fibs_session.specs.History.Words.{Ask}
 use Rattle.fibs_advice.specs.Offers.{OffersNow, is_taken, may_decide, first_way, hint_text}
@@ -77,11 +79,12 @@ send_text direction (Some d) None = line_text direction d
 send_text direction None (Some d) = line_text direction d
 send_text direction (Some d) (Some e) = line_text direction d ++ (codes ", or " ++ line_text direction e)
 
--- the command of a decision in a row of its own, if there is one, and how it goes: as it is by `send`
+-- the command of a decision in a row of its own, if there is one, and how it goes: as it is by `send`; by its numbers
+-- the user goes this way
 abbrev pub goes_on_text : List ℕ → Direction → Option Decision → List ℕ
-goes_on_text how direction None = []
-goes_on_text how direction (Some d) =
-    codes "If the game goes on: " ++ (how ++ (command_of direction (decision_of d) ++ codes "\n"))
+goes_on_text how way None = []
+goes_on_text how way (Some d) =
+    codes "If the game goes on: " ++ (how ++ (command_of way (decision_of d) ++ codes "\n"))
 
 -- the first decision that the client takes
 abbrev pub first_taken : Advice → Option Decision
@@ -147,23 +150,26 @@ beginning R.Refused who word = word
 beginning R.Waits who word = word
 beginning row who word = []
 
--- what a row names: decisions that the client takes, lines that go as they are, a player
-abbrev pub named_in : Row → List ℕ → List ℕ → Advice → List ℕ
-named_in R.Offers opponent inviter a = hint_text a.offers
-named_in R.Resigns opponent inviter a = hint_text a.offers
-named_in R.Owes opponent inviter a = hint_text a.offers
-named_in R.ServerPlays opponent inviter a = toggles_text a.automove a.greedy ++ resumes_text opponent
-named_in R.Declined opponent inviter a = send_text a.offers.direction a.send a.other
-named_in R.Same opponent inviter a = send_text a.offers.direction a.send a.other
-named_in R.Back opponent inviter a = send_text a.offers.direction a.send a.other
-named_in R.Unsettled opponent inviter a = goes_on_text [] a.offers.direction (first_taken a)
-named_in R.Unanswered opponent inviter a = goes_on_text [] a.offers.direction (first_taken a)
-named_in R.Thinks opponent inviter a = goes_on_text (codes "send ") a.offers.direction a.send
-named_in R.Saved opponent inviter a = saved_text opponent
-named_in R.Invited opponent inviter a = invited_text inviter
-named_in row opponent inviter a = []
+-- what a row names: decisions that the client takes, in the numbers that the user reads; lines that go as they are, in
+-- those of the server; a player
+abbrev pub named_in : Numbers → Row → List ℕ → List ℕ → Advice → List ℕ
+named_in numbers R.Offers opponent inviter a = hint_text numbers a.offers
+named_in numbers R.Resigns opponent inviter a = hint_text numbers a.offers
+named_in numbers R.Owes opponent inviter a = hint_text numbers a.offers
+named_in numbers R.ServerPlays opponent inviter a = toggles_text a.automove a.greedy ++ resumes_text opponent
+named_in numbers R.Declined opponent inviter a = send_text a.offers.direction a.send a.other
+named_in numbers R.Same opponent inviter a = send_text a.offers.direction a.send a.other
+named_in numbers R.Back opponent inviter a = send_text a.offers.direction a.send a.other
+named_in numbers R.Unsettled opponent inviter a =
+    goes_on_text [] (counted numbers a.offers.direction) (first_taken a)
+named_in numbers R.Unanswered opponent inviter a =
+    goes_on_text [] (counted numbers a.offers.direction) (first_taken a)
+named_in numbers R.Thinks opponent inviter a = goes_on_text (codes "send ") a.offers.direction a.send
+named_in numbers R.Saved opponent inviter a = saved_text opponent
+named_in numbers R.Invited opponent inviter a = invited_text inviter
+named_in numbers row opponent inviter a = []
 
--- what is said: of a name that is not to be typed the first 24 bytes
-abbrev pub advice_text : List ℕ → List ℕ → Advice → List ℕ
-advice_text opponent inviter a = beginning a.row (opponent_text (take 24 opponent)) (decision_word a.asked)
-    ++ (words_before a.row ++ (named_in a.row opponent inviter a ++ words_after a.row))
+-- what is said, to a user who reads these numbers: of a name that is not to be typed the first 24 bytes
+abbrev pub advice_text : Numbers → List ℕ → List ℕ → Advice → List ℕ
+advice_text numbers opponent inviter a = beginning a.row (opponent_text (take 24 opponent)) (decision_word a.asked)
+    ++ (words_before a.row ++ (named_in numbers a.row opponent inviter a ++ words_after a.row))

@@ -2,6 +2,7 @@ pub mod Advised
 pub mod BrokenRules
 pub mod Leads
 pub mod Listings
+pub mod Moved
 pub mod Offers
 pub mod Rows
 pub mod Situations

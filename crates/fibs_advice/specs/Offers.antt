@@ -6,6 +6,8 @@ use Rattle.fibs_position.specs.declared.decision.Decision.TheVariants as D
 use Rattle.fibs_position.specs.declared.direction.Direction.{Direction}
 use Rattle.fibs_position.specs.DecisionValue.{DecisionValue, roll, double, accept, reject, move}
 use Rattle.fibs_position.specs.DirectionOf.{direction_of}
+use Rattle.fibs_position.specs.NumbersOf.{counted}
+use Rattle.fibs_position.specs.declared.numbers.Numbers.{Numbers}
 use Rattle.fibs_rules.specs.declared.play.Play.{Play}
 use Rattle.fibs_rules.specs.PlayValue.{hops_of}
 use Rattle.fibs_session.specs.History.Machine.{Talk, answer_now, shown_now}
@@ -22,7 +24,7 @@ pub record OffersNow (t : Talk) (o : Offers) : Type 0 where
   pub accept : o.accept ≡ is_taken t accept
   pub reject : o.reject ≡ is_taken t reject
   pub example : IfSome o.example (λ play. is_taken t (move (hops_of play)) ≡ true)
-  -- commands are in the numbers of the board that is shown
+  -- what goes to the server is in the numbers of the board that is shown
   pub direction : IfSome (shown_now t) (λ b. o.direction ≡ direction_of b)
 
 -- the first decision that may be made: to roll, else to move
@@ -35,11 +37,11 @@ first_way false (Some play) = Some (D.Move play)
 abbrev pub may_decide : Offers → Bool
 may_decide o = o.roll || (o.double || (o.accept || (o.reject || is_some o.example)))
 
--- a move in the numbers of the board
+-- a move, as it is typed by numbers by which the user goes this way
 abbrev pub example_text : Direction → Option Play → List ℕ
-example_text direction None = []
-example_text direction (Some play) =
-    codes "Your move, as in: " ++ (command_of direction (move (hops_of play)) ++ codes "\n")
+example_text way None = []
+example_text way (Some play) =
+    codes "Your move, as in: " ++ (command_of way (move (hops_of play)) ++ codes "\n")
 
 -- to roll, and to double only if that is taken too; to answer a double
 abbrev pub hint_words : Bool → Bool → Bool → Bool → List ℕ
@@ -49,6 +51,8 @@ hint_words false _ true _ = codes "You are offered a double: accept, or reject.\
 hint_words false _ false true = codes "You are offered a double: reject.\n"
 hint_words false _ false false = []
 
--- the hint: it names a decision only if the client takes it now, and is empty if the client takes none
-abbrev pub hint_text : Offers → List ℕ
-hint_text o = hint_words o.roll o.double o.accept o.reject ++ example_text o.direction o.example
+-- the hint, in the numbers that the user reads: it names a decision only if the client takes it now, and is empty if
+-- the client takes none
+abbrev pub hint_text : Numbers → Offers → List ℕ
+hint_text numbers o =
+    hint_words o.roll o.double o.accept o.reject ++ example_text (counted numbers o.direction) o.example

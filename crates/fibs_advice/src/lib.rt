@@ -3,6 +3,7 @@
 #![tactic(auto)]
 
 pub mod advised;
+pub mod moved;
 pub mod offers;
 pub mod plays;
 pub mod row;

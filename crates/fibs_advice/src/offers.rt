@@ -8,7 +8,7 @@ ghost use Rattle.fibs_session.specs.Calls.Standing.{StandsAfter};
 ghost use Rattle.fibs_advice.specs.Offers.{OffersNow, is_taken, may_decide, first_way, example_text, hint_words, hint_text};
 
 use fibs_commands::decision_text;
-use fibs_position::{Decision, Direction, Play};
+use fibs_position::{Decision, Direction, Numbers, Play};
 use fibs_session::Client;
 use std::alloc::{AllocError, Global};
 
@@ -25,7 +25,7 @@ pub struct Offers {
     pub reject: bool,
     /// To move: one of the legal moves.
     pub example: Option<Play>,
-    /// Which way the player goes by the numbers of the board.
+    /// Which way the player goes by the numbers of the board line.
     pub direction: Direction,
 }
 
@@ -111,27 +111,31 @@ fn hint_words(roll: bool, double: bool, accept: bool, reject: bool) -> &'static 
     }
 }
 
-/// Appends what may be decided, and how it is typed; appends nothing if nothing may be decided.
-pub(crate) fn append_offers(offers: &Offers, text: &mut Vec<u8>) -> Result<(), AllocError>
-    ensures { OnOk result (text.new.items ≡ text.old.items ++ hint_text offers.now) }
+/// Appends what may be decided, and how it is typed in these numbers; appends nothing if nothing may be decided.
+pub(crate) fn append_offers(
+    offers: &Offers,
+    numbers: Numbers,
+    text: &mut Vec<u8>,
+) -> Result<(), AllocError>
+    ensures { OnOk result (text.new.items ≡ text.old.items ++ hint_text numbers offers.now) }
 {
     let words = hint_words(offers.roll, offers.double, offers.accept, offers.reject);
     text.extend_from_slice(words)?;
-    append_example(offers.direction, offers.example, text)
+    append_example(numbers.way(offers.direction), offers.example, text)
 }
 
 /// Appends a move that may be made, if there is one.
 fn append_example(
-    direction: Direction,
+    way: Direction,
     example: Option<Play>,
     text: &mut Vec<u8>,
 ) -> Result<(), AllocError>
-    ensures { OnOk result (text.new.items ≡ text.old.items ++ example_text direction example) }
+    ensures { OnOk result (text.new.items ≡ text.old.items ++ example_text way example) }
 {
     match example {
         None => Ok(()),
         Some(play) => {
-            let command = decision_text(&Decision::Move(play), direction);
+            let command = decision_text(&Decision::Move(play), way);
             text.extend_from_slice(b"Your move, as in: ")?;
             text.extend_from_slice(command.as_bytes())?;
             text.extend_from_slice(b"\n")

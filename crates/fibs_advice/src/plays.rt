@@ -5,23 +5,23 @@ ghost use Rattle.fibs_advice.specs.Listings.{all_plays};
 use crate::spelling::moves::place_of;
 use fibs_commands::decision_text;
 use fibs_fields::decimal::append_number;
-use fibs_position::{Decision, Direction, GameBoard, Play};
+use fibs_position::{Decision, Direction, GameBoard, Numbers, Play};
 use std::alloc::{AllocError, Global};
 
 /// How many moves are listed.
 const MOST_LISTED: usize = 20;
 
 /// Appends a move in a row.
-fn append_row(play: Play, direction: Direction, text: &mut Vec<u8>) -> Result<(), AllocError> {
+fn append_row(play: Play, way: Direction, text: &mut Vec<u8>) -> Result<(), AllocError> {
     text.extend_from_slice(b"  ")?;
-    text.extend_from_slice(decision_text(&Decision::Move(play), direction).as_bytes())?;
+    text.extend_from_slice(decision_text(&Decision::Move(play), way).as_bytes())?;
     text.extend_from_slice(b"\n")
 }
 
 /// Appends moves, each in a row.
-fn append_rows(plays: &[Play], direction: Direction, text: &mut Vec<u8>) -> Result<(), AllocError> {
+fn append_rows(plays: &[Play], way: Direction, text: &mut Vec<u8>) -> Result<(), AllocError> {
     for play in plays {
-        append_row(*play, direction, text)?;
+        append_row(*play, way, text)?;
     }
     Ok(())
 }
@@ -46,10 +46,10 @@ impl Listing {
         }
     }
 
-    /// Those that move a checker from a place of a board: `24`, `bar`. None if it is not a place.
-    pub fn from_place(name: &[u8], game: &GameBoard) -> Option<Listing> {
+    /// Those that move a checker from a place of a board, in these numbers: `24`, `bar`. None if it is not a place.
+    pub fn from_place(name: &[u8], game: &GameBoard, numbers: Numbers) -> Option<Listing> {
         Some(Listing {
-            from: Some(place_of(name, game.direction())?),
+            from: Some(place_of(name, numbers.way(game.direction()))?),
             listed: 0,
         })
     }
@@ -100,12 +100,14 @@ fn push_listed(plays: &[Play], listing: Listing, chosen: &mut Vec<Play>) -> Resu
     Ok(())
 }
 
-/// Appends legal moves of a board, at most 20 of them, and how many there are. Gives what is listed next.
+/// Appends legal moves of a board in these numbers, at most 20 of them, and how many there are. Gives what is listed
+/// next.
 ///
 /// Errors: if memory runs out.
 pub fn append_plays(
     alloc: Global,
     game: &GameBoard,
+    numbers: Numbers,
     listing: Listing,
     text: &mut Vec<u8>,
 ) -> Result<Listing, AllocError> {
@@ -119,7 +121,7 @@ pub fn append_plays(
     let rest = chosen.as_slice().get(listing.listed..).unwrap_or(&[]);
     let part = &rest[..rest.len().min(MOST_LISTED)];
     let last = (chosen.len().saturating_sub(rest.len())).saturating_add(part.len());
-    append_rows(part, game.direction(), text)?;
+    append_rows(part, numbers.way(game.direction()), text)?;
     listing.append_count(last, chosen.len(), text)?;
     Ok(Listing {
         from: listing.from,

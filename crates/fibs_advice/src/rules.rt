@@ -7,7 +7,7 @@ ghost use Rattle.fibs_advice.specs.BrokenRules.{distance, holds, is_held, is_pla
 use fibs_commands::BAR;
 use fibs_fields::boards::fields::{FIRST_DIE, SECOND_DIE};
 use fibs_fields::decimal::append_number;
-use fibs_position::{Direction, GameBoard, Play, Position, Step};
+use fibs_position::{Direction, GameBoard, Numbers, Play, Position, Step};
 use std::alloc::AllocError;
 
 /// The place of the home that is farthest from off.
@@ -154,14 +154,14 @@ fn broken_rule(position: &Position, dice: (u8, u8), play: &Play) -> Option<Broke
     }
 }
 
-/// Appends a place by the numbers of the board.
-fn append_place(place: u8, direction: Direction, text: &mut Vec<u8>) -> Result<(), AllocError> {
+/// Appends a place by the numbers by which the player goes this way.
+fn append_place(place: u8, way: Direction, text: &mut Vec<u8>) -> Result<(), AllocError> {
     if place == 0 {
         text.extend_from_slice(b"off")
     } else if place >= BAR {
         text.extend_from_slice(b"the bar")
     } else {
-        append_number(direction.line_place(place), text)
+        append_number(way.line_place(place), text)
     }
 }
 
@@ -169,11 +169,11 @@ fn append_place(place: u8, direction: Direction, text: &mut Vec<u8>) -> Result<(
 fn append_of_place(
     words: &[u8],
     place: u8,
-    direction: Direction,
+    way: Direction,
     text: &mut Vec<u8>,
 ) -> Result<(), AllocError> {
     text.extend_from_slice(words)?;
-    append_place(place, direction, text)?;
+    append_place(place, way, text)?;
     text.extend_from_slice(b".")
 }
 
@@ -194,51 +194,47 @@ fn append_dice_to_play(most: u8, text: &mut Vec<u8>) -> Result<(), AllocError> {
 }
 
 /// Appends that no die plays a step.
-fn append_distance(
-    step: &Step,
-    direction: Direction,
-    text: &mut Vec<u8>,
-) -> Result<(), AllocError> {
+fn append_distance(step: &Step, way: Direction, text: &mut Vec<u8>) -> Result<(), AllocError> {
     text.extend_from_slice(b"No die plays from ")?;
-    append_place(step.source(), direction, text)?;
-    append_of_place(b" to ", step.target(), direction, text)
+    append_place(step.source(), way, text)?;
+    append_of_place(b" to ", step.target(), way, text)
 }
 
 /// Appends a rule that is broken.
 fn append_broken(
     broken: &BrokenRule,
-    direction: Direction,
+    way: Direction,
     text: &mut Vec<u8>,
 ) -> Result<(), AllocError> {
     match broken {
         BrokenRule::Bar => text.extend_from_slice(b"A checker on the bar enters first."),
         BrokenRule::Empty(place) => {
-            append_of_place(b"You have no checker on ", *place, direction, text)
+            append_of_place(b"You have no checker on ", *place, way, text)
         }
-        BrokenRule::Held(place) => append_of_place(
-            b"Your opponent holds ",
-            *place,
-            direction,
-            text,
-        ),
+        BrokenRule::Held(place) => append_of_place(b"Your opponent holds ", *place, way, text),
         BrokenRule::Outside => {
             text.extend_from_slice(b"No checker goes off before all are home.")
         }
         BrokenRule::Behind => text.extend_from_slice(b"A checker farther back goes first."),
-        BrokenRule::Distance(step) => append_distance(step, direction, text),
+        BrokenRule::Distance(step) => append_distance(step, way, text),
         BrokenRule::MoreDice(most) => append_more_dice(*most, text),
         BrokenRule::Larger => text.extend_from_slice(b"The larger die must be played."),
     }
 }
 
-/// Appends the rule that a move breaks on a board; nothing if none can be named.
+/// Appends the rule that a move breaks on a board, in these numbers; nothing if none can be named.
 ///
 /// Errors: if memory runs out.
-pub fn append_rule(game: &GameBoard, play: &Play, text: &mut Vec<u8>) -> Result<(), AllocError> {
+pub fn append_rule(
+    game: &GameBoard,
+    numbers: Numbers,
+    play: &Play,
+    text: &mut Vec<u8>,
+) -> Result<(), AllocError> {
     let board = game.board();
     let dice = (board.die(FIRST_DIE), board.die(SECOND_DIE));
     match broken_rule(game.position(), dice, play) {
-        Some(broken) => append_broken(&broken, game.direction(), text),
+        Some(broken) => append_broken(&broken, numbers.way(game.direction()), text),
         None => Ok(()),
     }
 }

@@ -7,7 +7,7 @@ use crate::advised::Advice;
 use crate::offers::{append_offers, first_way};
 use crate::row::Row;
 use fibs_commands::decision_text;
-use fibs_position::{Decision, Direction};
+use fibs_position::{Decision, Direction, Numbers};
 use std::alloc::AllocError;
 
 /// Appends a decision as a line that goes as it is.
@@ -46,16 +46,16 @@ fn append_send(
 /// Appends the command of a decision in a row of its own, if there is one, and how it goes.
 fn append_goes_on(
     how: &[u8],
-    direction: Direction,
+    way: Direction,
     decision: Option<Decision>,
     text: &mut Vec<u8>,
 ) -> Result<(), AllocError>
-    ensures { OnOk result (text.new.items ≡ text.old.items ++ goes_on_text how.now direction decision) }
+    ensures { OnOk result (text.new.items ≡ text.old.items ++ goes_on_text how.now way decision) }
 {
     match decision {
         None => Ok(()),
         Some(decision) => {
-            let command = decision_text(&decision, direction);
+            let command = decision_text(&decision, way);
             text.extend_from_slice(b"If the game goes on: ")?;
             text.extend_from_slice(how)?;
             text.extend_from_slice(command.as_bytes())?;
@@ -204,19 +204,20 @@ pub fn append_join(inviter: &[u8], text: &mut Vec<u8>) -> Result<(), AllocError>
     text.extend_from_slice(inviter)
 }
 
-/// Appends what a row names.
+/// Appends what a row names: in these numbers, but in the server's if it goes as it is.
 fn append_named(
     advice: &Advice,
+    numbers: Numbers,
     opponent: &[u8],
     inviter: &[u8],
     text: &mut Vec<u8>,
 ) -> Result<(), AllocError>
     ensures { OnOk result (text.new.items
-        ≡ text.old.items ++ named_in advice.now.row opponent.now inviter.now advice.now) }
+        ≡ text.old.items ++ named_in numbers advice.now.row opponent.now inviter.now advice.now) }
 {
     let direction = advice.offers.direction;
     match advice.row {
-        Row::Offers | Row::Resigns | Row::Owes => append_offers(&advice.offers, text),
+        Row::Offers | Row::Resigns | Row::Owes => append_offers(&advice.offers, numbers, text),
         Row::ServerPlays => append_way_out(advice.automove, advice.greedy, opponent, text),
         Row::Declined | Row::Same | Row::Back => append_send(
             direction,
@@ -226,7 +227,7 @@ fn append_named(
         ),
         Row::Unsettled | Row::Unanswered => {
             let first = first_way(advice.offers.roll, advice.offers.example);
-            append_goes_on(b"", direction, first, text)
+            append_goes_on(b"", numbers.way(direction), first, text)
         }
         Row::Thinks => append_goes_on(b"send ", direction, advice.send, text),
         Row::Saved => append_opponent(opponent, text),
@@ -235,18 +236,19 @@ fn append_named(
     }
 }
 
-/// Appends what is advised to a user who plays against this opponent, or whom this player invites. A line that is to be
-/// typed has the whole name.
+/// Appends what is advised to a user who reads these numbers, and plays against this opponent, or whom this player
+/// invites. A line that is to be typed has the whole name.
 pub fn append_advice(
     advice: &Advice,
+    numbers: Numbers,
     opponent: &[u8],
     inviter: &[u8],
     text: &mut Vec<u8>,
 ) -> Result<(), AllocError>
-    ensures { OnOk result (text.new.items ≡ text.old.items ++ advice_text opponent.now inviter.now advice.now) }
+    ensures { OnOk result (text.new.items ≡ text.old.items ++ advice_text numbers opponent.now inviter.now advice.now) }
 {
     text.extend_from_slice(beginning(advice.row, named(opponent), advice.asked))?;
     text.extend_from_slice(advice.row.words_before())?;
-    append_named(advice, opponent, inviter, text)?;
+    append_named(advice, numbers, opponent, inviter, text)?;
     text.extend_from_slice(advice.row.words_after())
 }

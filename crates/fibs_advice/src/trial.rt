@@ -5,13 +5,14 @@ ghost use Rattle.fibs_commands.specs.TextOf.{text_of};
 ghost use Rattle.fibs_position.specs.DecisionValue.{IsDecision, move};
 ghost use Rattle.fibs_position.specs.DirectionOf.{direction_of};
 ghost use Rattle.fibs_position.specs.GameOf.{game_of};
+ghost use Rattle.fibs_position.specs.NumbersOf.{counted};
 ghost use Rattle.fibs_rules.specs.PlayValue.{hops_of};
 ghost use Rattle.fibs_advice.specs.Leads.{LeadsTo};
 
 use fibs_commands::{CommandText, decision_text};
 use fibs_fields::boards::laws::fields_tell_boards;
 use fibs_position::laws::decisions_are_valid;
-use fibs_position::{Decision, GameBoard, Play, effect};
+use fibs_position::{Decision, GameBoard, Numbers, Play, effect};
 
 /// What stands in place of dice for a decision that takes none.
 const NO_DICE: [u8; 2] = [0, 0];
@@ -59,6 +60,16 @@ impl Trial {
     {
         decisions_are_valid();
         decision_text(&Decision::Move(self.play), self.before.direction())
+    }
+
+    /// The command of the move, in these numbers.
+    pub fn command_by(&self, numbers: Numbers) -> CommandText
+        ensures { text_of result ≡ command_of (counted numbers (direction_of (tried_on self.now))) (tried self.now) }
+    {
+        decision_text(
+            &Decision::Move(self.play),
+            numbers.way(self.before.direction()),
+        )
     }
 
     /// Whether a board is the one on which the move was tried.

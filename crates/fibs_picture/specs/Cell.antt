@@ -7,7 +7,7 @@ use Rattle.fibs_position.specs.DirectionOf.{line_place}
 use Rattle.fibs_position.specs.PositionValue.{PositionValue}
 use Rattle.fibs_position.specs.declared.direction.Direction.{Direction}
 use Rattle.fibs_picture.specs.Ink.{stack, byte_of}
-use Rattle.fibs_picture.specs.Look.{counted}
+use Rattle.fibs_position.specs.NumbersOf.{counted}
 use Rattle.fibs_picture.specs.Marks.{is_arrived, marked}
 use Rattle.fibs_picture.specs.Strip.{strip_at, is_left_out, board_width}
 use Rattle.fibs_picture.specs.declared.cell.Drawn.{Drawn}

@@ -1,15 +1,6 @@
 -- How a picture is drawn (the project's own).
 use Rattle.std.specs.Prelude.{◌≢◌, ◌==◌, ◌&&◌, ◌||◌, ◌<◌, ◌≤◌, ◌⊎◌, not, nat_lt, nat_le, ℕ, Bool}
-use Rattle.fibs_position.specs.declared.direction.Direction.{Direction}
-use Rattle.fibs_position.specs.declared.direction.Direction.TheVariants.{Down}
 use Rattle.fibs_picture.specs.declared.look.Look.{Look}
-use Rattle.fibs_picture.specs.declared.look.Numbers.{Numbers}
-use Rattle.fibs_picture.specs.declared.look.Numbers.TheVariants as N
-
--- which way the numbers at the edges go: a player who goes up by the server's counts his own from 24 down all the same
-abbrev pub counted : Numbers → Direction → Direction
-counted N.TheServers direction = direction
-counted N.TheOwn direction = Down
 
 -- a letter of checkers is printed, and no digit
 abbrev pub IsLetter : ℕ → Type 0

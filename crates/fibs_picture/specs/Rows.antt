@@ -12,7 +12,7 @@ use Rattle.fibs_picture.specs.declared.cell.Drawn.TheVariants as D
 use Rattle.fibs_picture.specs.declared.cell.Half.{Half}
 use Rattle.fibs_picture.specs.declared.cell.Half.TheVariants as half
 use Rattle.fibs_picture.specs.declared.look.Look.{Look}
-use Rattle.fibs_picture.specs.declared.look.Numbers.TheVariants as N
+use Rattle.fibs_position.specs.declared.numbers.Numbers.TheVariants as N
 
 -- two boards look the same on the board itself: 24 places, and the numbers at the edges
 pub record SameCells (look : Look) (a b : BoardFields) : Type 0 where

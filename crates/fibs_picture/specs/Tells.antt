@@ -12,7 +12,7 @@ use Rattle.fibs_picture.specs.Rows.{AlikeRows}
 use Rattle.fibs_picture.specs.Told.{whose_turn}
 use Rattle.fibs_picture.specs.Whole.{is_passing, written_picture, seen_picture}
 use Rattle.fibs_picture.specs.declared.look.Look.{Look}
-use Rattle.fibs_picture.specs.declared.look.Numbers.TheVariants as N
+use Rattle.fibs_position.specs.declared.numbers.Numbers.TheVariants as N
 use Rattle.fibs_picture.specs.declared.mark.Mark.TheVariants as M
 use Rattle.fibs_picture.specs.declared.notes.Note.{Note}
 

@@ -6,7 +6,7 @@ ghost use Rattle.fibs_picture.specs.Ink.{IsSmall};
 ghost use Rattle.fibs_picture.specs.Strip.{IsWithin};
 
 use crate::ink::{Ink, byte_of, stack};
-use crate::look::{Look, counted};
+use crate::look::Look;
 use crate::mark::{Arrivals, Mark, is_arrived};
 use crate::strip::Strip;
 use fibs_position::{Direction, Position};
@@ -91,7 +91,7 @@ fn floor(look: &Look, direction: Direction, drawn: Drawn, strip: Strip) -> u8
         (Drawn::Edge(_), Strip::Wall) => b'+',
         (Drawn::Edge(_), Strip::Bar(_)) => b'-',
         (Drawn::Edge(half), Strip::Place(index, part)) => label(
-            counted(look.numbers, direction),
+            look.numbers.way(direction),
             place_of(half, index),
             part,
         ),

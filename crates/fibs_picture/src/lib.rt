@@ -16,7 +16,7 @@ mod strip;
 mod words;
 mod writing;
 
-pub use look::{Look, Numbers, are_letters};
+pub use look::{Look, are_letters};
 pub use mark::{Arrivals, NO_ARRIVALS};
 pub use picture::{append_game, append_watched};
 pub(crate) use words::{doublers, shown_name};

@@ -1,17 +1,8 @@
 //! How a picture is drawn.
 ghost use Rattle.std.specs.Prelude.{◌≡◌};
-ghost use Rattle.fibs_picture.specs.Look.{counted, is_letter, are_letters};
+ghost use Rattle.fibs_picture.specs.Look.{is_letter, are_letters};
 
-use fibs_position::Direction;
-
-/// Whose numbers stand at the edges.
-#[derive(Clone, Copy, Debug, PartialEq, Eq)]
-pub enum Numbers {
-    /// The board line's, which the player types: they go up if the player goes up by them.
-    TheServers,
-    /// The player's own, from 24 down to 1.
-    TheOwn,
-}
+use fibs_position::Numbers;
 
 /// How a picture is drawn.
 #[derive(Clone, Copy, Debug, PartialEq, Eq)]
@@ -30,16 +21,6 @@ pub struct Look {
     pub is_long: bool,
     /// How many columns a row may have.
     pub columns: usize,
-}
-
-/// Which way the numbers at the edges go.
-pub fn counted(numbers: Numbers, direction: Direction) -> Direction
-    ensures { result ≡ counted numbers direction }
-{
-    match numbers {
-        Numbers::TheServers => direction,
-        Numbers::TheOwn => Direction::Down,
-    }
 }
 
 /// A letter of checkers is printed, and no digit.

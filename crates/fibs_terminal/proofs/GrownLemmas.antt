@@ -3,6 +3,7 @@ use Rattle.std.proofs.Common.{◌≡◌, [], List, ℕ, Option, Result, Ok, Err,
 use Rattle.std.specs.Prelude.{OnOk}
 use Rattle.std.specs.Io.KnownBytes.{Appends, Keeps}
 use Rattle.std.proofs.KnownBytes.{Appends-kept, Appends-nil}
+use Rattle.fibs_position.specs.declared.numbers.Numbers.{Numbers}
 use Rattle.fibs_session.specs.Calls.Standing.{ClientValue}
 use Rattle.fibs_terminal.specs.declared.memory.Memory.{Memory}
 use Rattle.fibs_terminal.specs.Grown.{Grown}
@@ -22,7 +23,8 @@ pub grown_then_kept : (a b c : Option (List ℕ)) (text : List ℕ) → Appends 
 grown_then_kept a b c text p k = (text, Appends-kept a b c text p k)
 
 -- what is said is shown
-pub advice_shown : (client : ClientValue) (m : Memory) (a b c : Option (List ℕ)) (text written : List ℕ)
-    → SaysAdvice client m [] text → written ≡ text → Appends a b written → Keeps b c → ShowsAdvice client m a c
-advice_shown client m a b c text written said same p k =
+pub advice_shown : (client : ClientValue) (numbers : Numbers) (m : Memory) (a b c : Option (List ℕ))
+    (text written : List ℕ) → SaysAdvice client numbers m [] text → written ≡ text → Appends a b written → Keeps b c
+    → ShowsAdvice client numbers m a c
+advice_shown client numbers m a b c text written said same p k =
     (text, said, subst (Appends a c) same (Appends-kept a b c written p k))

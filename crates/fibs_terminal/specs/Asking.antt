@@ -1,8 +1,9 @@
 -- What a typed line asks for (the project's own).
 use Rattle.std.specs.Prelude.{◌≡◌, ◌++◌, true, false, ℕ, nat_lt, length, List, [], codes, None, Result, IfOk}
+use Rattle.fibs_position.specs.declared.numbers.Numbers.{Numbers}
 use Rattle.fibs_session.specs.History.Machine.{Talk}
 use Rattle.fibs_session.specs.Calls.Standing.{ClientValue, StandsAfter}
-use Rattle.fibs_session.specs.Typing.{typed_now, is_command, would_take}
+use Rattle.fibs_session.specs.Typing.{typed_by, typed_now, is_command, would_take}
 use Rattle.fibs_connect.specs.Wishes.{WishValue, takes_turn, is_too_long, typed_limit}
 use Rattle.fibs_connect.specs.declared.wish.Wish.{Wish}
 use Rattle.fibs_connect.specs.declared.wish.Wish.TheVariants.{Say, Send}
@@ -12,11 +13,18 @@ abbrev pub AsksInBounds : List ℕ → WishValue → Type 0
 AsksInBounds line wish = (line ≡ [] → wish ≡ takes_turn None)
     × (nat_lt typed_limit (length line) ≡ true → wish ≡ is_too_long)
 
--- what the client knows is never respelled, and the client answers it: a decision, a line to people, an order
-abbrev pub KnownGoesOn : {E : Type 0} → ClientValue → List ℕ → List ℕ → Result Wish E → Type 0
-KnownGoesOn client before after result = IfOk result (λ wish. (t : Talk) → StandsAfter client t
-    → is_command (typed_now t before) ≡ true
-    → (after ≡ before) × (nat_lt 0 (length before) ≡ true → nat_lt typed_limit (length before) ≡ false → wish ≡ Say))
+-- a line goes on as another: it is never respelled if the client reads in it what the user means, by the numbers that
+-- he reads; and the client answers what he means
+pub record GoesOnAs (numbers : Numbers) (t : Talk) (before after : List ℕ) (wish : Wish) : Type 0 where
+  pub stays : typed_now t before ≡ typed_by numbers t before → after ≡ before
+  pub means : nat_lt 0 (length before) ≡ true → nat_lt typed_limit (length before) ≡ false
+      → (typed_now t after ≡ typed_by numbers t before) × (wish ≡ Say)
+
+-- so goes each line that is a command by these numbers: a decision, a line to people, an order. A move is taken as the
+-- play of its steps, and goes out as its command in the server's numbers
+abbrev pub KnownGoesOn : {E : Type 0} → ClientValue → Numbers → List ℕ → List ℕ → Result Wish E → Type 0
+KnownGoesOn client numbers before after result = IfOk result (λ wish. (t : Talk) → StandsAfter client t
+    → is_command (typed_by numbers t before) ≡ true → GoesOnAs numbers t before after wish)
 
 -- what `re` tells to who spoke last, by his whole name
 abbrev pub tell_line : List ℕ → List ℕ → List ℕ

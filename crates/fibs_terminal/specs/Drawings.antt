@@ -12,7 +12,6 @@ use Rattle.fibs_picture.specs.Tells.{IsSeen, SameOnScreen, SameDeed}
 use Rattle.fibs_picture.specs.Told.{SameToTheEye}
 use Rattle.fibs_picture.specs.Whole.{written_picture}
 use Rattle.fibs_picture.specs.declared.look.Look.{Look}
-use Rattle.fibs_picture.specs.declared.look.Numbers.TheVariants as N
 use Rattle.fibs_wording.specs.declared.environment.settings.Settings.{Settings}
 
 -- ---- pictures
@@ -33,7 +32,7 @@ abbrev pub look_of : Settings → Look
 look_of s = record {
   own = slice_index (letters_of s.letters) 0;
   other = slice_index (letters_of s.letters) 1;
-  numbers = N.TheServers;
+  numbers = s.numbers;
   is_turned = s.is_turned;
   is_marked = s.colour;
   is_long = is_plain s;

@@ -3,10 +3,13 @@ use Rattle.std.specs.Prelude.{◌≡◌, ◌⊎◌, ◌++◌, ℕ, List, [], cod
 use Rattle.std.specs.Io.KnownBytes.{Appends}
 use Rattle.fibs_fields.specs.Board.{BoardFields}
 use Rattle.fibs_position.specs.DirectionOf.{direction_of}
+use Rattle.fibs_position.specs.NumbersOf.{counted}
+use Rattle.fibs_position.specs.declared.numbers.Numbers.{Numbers}
+use Rattle.fibs_position.specs.declared.numbers.Numbers.TheVariants.{TheServers}
 use Rattle.fibs_commands.specs.Commands.{command_of}
 use Rattle.fibs_session.specs.History.Machine.{Talk, shown_now, answer_now}
 use Rattle.fibs_session.specs.Calls.Standing.{ClientValue, StandsAfter}
-use Rattle.fibs_session.specs.Typing.{typed_now, typed_decision, is_command}
+use Rattle.fibs_session.specs.Typing.{is_command, typed_by, typed_decision, typed_now}
 use Rattle.fibs_fields.specs.Split.{before}
 use Rattle.fibs_connect.specs.Wishes.{typed_limit}
 use Rattle.fibs_wording.specs.declared.environment.settings.Settings.{Settings}
@@ -21,19 +24,24 @@ use Rattle.fibs_advice.specs.declared.trial.Trial.{Trial}
 abbrev pub tried_command : Trial → List ℕ
 tried_command x = command_of (direction_of (tried_on x)) (tried x)
 
+-- the same in the numbers that the user reads
+abbrev pub command_by : Numbers → Trial → List ℕ
+command_by numbers x = command_of (counted numbers (direction_of (tried_on x))) (tried x)
+
 -- how it is sent
 unfoldable pub go_row : List ℕ → List ℕ
 go_row command = codes "Not sent yet: go sends " ++ (command ++ codes "\n")
 
 -- what is written: the board to which the move leads, and how it is sent
-abbrev pub AddsTrial : (BoardFields → List ℕ → Type 0) → Trial → List ℕ → List ℕ → Type 0
-AddsTrial Shows x before after = (b : BoardFields) × LeadsTo (tried_on x) (tried x) b × ((picture : List ℕ)
-    × Shows b picture × (after ≡ before ++ (picture ++ go_row (tried_command x))))
+abbrev pub AddsTrial : (BoardFields → List ℕ → Type 0) → Numbers → Trial → List ℕ → List ℕ → Type 0
+AddsTrial Shows numbers x before after = (b : BoardFields) × LeadsTo (tried_on x) (tried x) b × ((picture : List ℕ)
+    × Shows b picture × (after ≡ before ++ (picture ++ go_row (command_by numbers x))))
 
--- the board is drawn, or told if the user has asked for words and the terminal takes them as they are
+-- the board is drawn, or, in the server's numbers, told if the user has asked for words and the terminal takes them as
+-- they are
 pub record ShowsTrial (s : Settings) (x : Trial) (before : List ℕ) (after : List ℕ) : Type 0 where
-  pub drawn : s.words ≡ false → AddsTrial (Draws s false (is_plain s)) x before after
-  pub told : is_worded s ≡ true → AddsTrial TellsBoard x before after
+  pub drawn : s.words ≡ false → AddsTrial (Draws s false (is_plain s)) s.numbers x before after
+  pub told : s.numbers ≡ TheServers → is_worded s ≡ true → AddsTrial TellsBoard s.numbers x before after
 
 -- the move was tried on the board that is shown, and the client would take it
 pub record MayBeSent (t : Talk) (x : Trial) : Type 0 where
@@ -49,23 +57,23 @@ Tries client s kept before after = IfSome kept (λ x. ((t : Talk) → StandsAfte
 abbrev pub TriesOrKeeps : ClientValue → Settings → Option Trial → Option Trial → List ℕ → List ℕ → Type 0
 TriesOrKeeps client s old kept before after = (kept ≡ old) ⊎ Tries client s kept before after
 
--- a line whose first word is `try`, which is not too long, and which the client does not know
-pub record IsTry (client : ClientValue) (line : List ℕ) : Type 0 where
+-- a line whose first word is `try`, which is not too long, and is no command by these numbers
+pub record IsTry (numbers : Numbers) (client : ClientValue) (line : List ℕ) : Type 0 where
   pub word : before 32 line ≡ codes "try"
   pub room : nat_lt typed_limit (length line) ≡ false
   pub talk : Talk
   pub stands : StandsAfter client talk
-  pub unknown : is_command (typed_now talk line) ≡ false
+  pub unknown : is_command (typed_by numbers talk line) ≡ false
 
 -- after it no move is kept but the one that was shown: so what `go` sends is what the last `try` showed
 abbrev pub ShowsTry : {E : Type 0} → ClientValue → Settings → List ℕ → Option Trial → List ℕ → List ℕ → Result Wish E
     → Type 0
-ShowsTry client s line kept start now result = IsTry client line → OnOk result (Tries client s kept start now)
+ShowsTry client s line kept start now result = IsTry s.numbers client line → OnOk result (Tries client s kept start now)
 
 -- the same for a writer
 abbrev pub WritesTry : {E : Type 0} → ClientValue → Settings → List ℕ → Option Trial → Option (List ℕ)
     → Option (List ℕ) → Result Wish E → Type 0
-WritesTry client s line kept held now result = IsTry client line
+WritesTry client s line kept held now result = IsTry s.numbers client line
     → OnOk result ((text : List ℕ) × Tries client s kept [] text × Appends held now text)
 
 -- the same for a writer

@@ -1,11 +1,16 @@
 //! What a line that is typed at a terminal asks for.
 ghost use Rattle.std.specs.Prelude.{◌≡◌, ◌≤◌, length, codes, true, Some, IfOk, OnOk};
 ghost use Rattle.fibs_connect.specs.Wishes.{wish_value};
+ghost use Rattle.fibs_session.specs.Calls.Standing.{StandsAfter};
+ghost use Rattle.fibs_session.specs.History.Machine.{Talk};
+ghost use Rattle.fibs_session.specs.Typing.{IsMeant};
 ghost use Rattle.fibs_terminal.specs.Asking.{AsksInBounds, KnownGoesOn, SendsUntaken};
 ghost use Rattle.fibs_fields.specs.Split.{before};
 ghost use Rattle.fibs_terminal.specs.Trying.{GoesOn, ShowsTry, Tries, TriesOrKeeps};
 
-use crate::drawing::{Watching, append_watched_words, append_words};
+use crate::drawing::{
+    Watching, append_watched_words, append_words, in_numbers, watched_in_numbers,
+};
 use crate::looking::{TRY_WHAT, trial_of};
 use crate::screen::Screen;
 use crate::story::Story;
@@ -18,13 +23,14 @@ use fibs_connect::wish::Wish;
 use fibs_fields::decimal::read_decimal;
 use fibs_fields::split::split;
 use fibs_fields::trailing_spaces::without_spaces;
-use fibs_position::Decision;
+use fibs_position::{Decision, Direction, Numbers};
+use fibs_session::typed::meant::{is_command_by, meant_command, read_typed_by};
 use fibs_session::typed::taking::would_take;
-use fibs_session::typed::typing::{Typed, is_command, read_typed};
-use fibs_session::{Client, Directory, Refusal};
-use fibs_wording::environment::Page;
+use fibs_session::typed::typing::{Typed, read_typed};
+use fibs_session::{Client, Directory, Refusal, decision_text};
 use fibs_wording::environment::pieces::append_all;
 use fibs_wording::environment::shown::append_shown;
+use fibs_wording::environment::{Page, read_numbers};
 use fibs_wording::help;
 use fibs_wording::players::append_players;
 use fibs_wording::reasons::refusal_words;
@@ -56,6 +62,7 @@ enum Here {
     Talk,
     Moves,
     Columns,
+    Numbers,
 }
 
 /// What is said of `send` without a line.
@@ -70,6 +77,14 @@ const LEAST_COLUMNS: u64 = 20;
 const MOST_COLUMNS: u64 = 999;
 
 const WHICH_COLUMNS: &[u8] = b"columns 60: how wide the terminal is, from 20 to 999.\n";
+
+/// What is said if `numbers` is not followed by whose they are, and what after it.
+const WHICH_NUMBERS: &[u8] =
+    b"numbers own: places from 24 down to 1. numbers server: as it counts them.\n";
+
+const OWN_NUMBERS: &[u8] = b"Places have your own numbers now: you go from 24 down to 1.\n";
+
+const SERVERS_NUMBERS: &[u8] = b"Places have the server's numbers now.\n";
 
 /// How many bytes of what follows a word are shown in a row: with the longest word the row fits.
 const MOST_SHOWN: usize = 19;
@@ -97,6 +112,7 @@ fn own_word(word: &[u8]) -> Option<Own>
         b"go" => Some(Own::Go),
         b"moves" => Some(Own::Here(Here::Moves)),
         b"columns" => Some(Own::Here(Here::Columns)),
+        b"numbers" => Some(Own::Here(Here::Numbers)),
         b"send" => Some(Own::Send),
         _ => None,
     }
@@ -126,8 +142,24 @@ pub(crate) fn set_line(line: &mut TypedLine, bytes: &[u8])
     let _fits = line.try_extend_from_slice(bytes);
 }
 
-/// Respells a line, if the client then knows it, or if it then begins with a word of the terminal.
-fn spell(alloc: Global, client: &Client, line: &mut TypedLine) -> Result<(), AllocError>
+/// Has in place of a decision in these numbers its command in the server's, as the client reads it. Any other line
+/// stays.
+fn set_meant(client: &Client, numbers: Numbers, line: &mut TypedLine)
+    ensures { (t : Talk) → StandsAfter client.now t → IsMeant numbers t line.old.items line.new.items }
+{
+    match meant_command(client, numbers, line.as_slice()) {
+        None => {}
+        Some(command) => set_line(line, command.as_str().as_bytes()),
+    }
+}
+
+/// Respells a line, if it then is a command by these numbers, or if it then begins with a word of the terminal.
+fn spell(
+    alloc: Global,
+    client: &Client,
+    numbers: Numbers,
+    line: &mut TypedLine,
+) -> Result<(), AllocError>
     ensures go { line.old.items ≡ codes "go" → line.new.items ≡ line.old.items }
     ensures tries { before 32 line.old.items ≡ codes "try" → line.new.items ≡ line.old.items }
 {
@@ -135,8 +167,8 @@ fn spell(alloc: Global, client: &Client, line: &mut TypedLine) -> Result<(), All
         return Ok(());
     }
     let mut spelled = Vec::new(alloc);
-    append_spelled(alloc, client, line.as_slice(), &mut spelled)?;
-    if is_command(client, spelled.as_slice()) || is_own(spelled.as_slice()) {
+    append_spelled(alloc, client, numbers, line.as_slice(), &mut spelled)?;
+    if is_command_by(client, numbers, spelled.as_slice()) || is_own(spelled.as_slice()) {
         set_line(line, spelled.as_slice());
         return Ok(());
     }
@@ -159,8 +191,13 @@ fn spell_passed(alloc: Global, line: &mut TypedLine, spelled: &[u8]) -> Result<(
 }
 
 /// Keeps which rule a move breaks, if the line is a move against the rules. None is kept of a line before.
-fn note_rule(client: &Client, line: &[u8], rule: &mut Vec<u8>) -> Result<(), AllocError> {
-    let Typed::Decision(decision) = read_typed(client, line) else {
+fn note_rule(
+    client: &Client,
+    numbers: Numbers,
+    line: &[u8],
+    rule: &mut Vec<u8>,
+) -> Result<(), AllocError> {
+    let Typed::Decision(decision) = read_typed_by(client, numbers, line) else {
         return Ok(());
     };
     let Decision::Move(play) = decision else {
@@ -171,7 +208,7 @@ fn note_rule(client: &Client, line: &[u8], rule: &mut Vec<u8>) -> Result<(), All
     }
     match client.game() {
         None => Ok(()),
-        Some(game) => append_rule(game, &play, rule),
+        Some(game) => append_rule(game, numbers, &play, rule),
     }
 }
 
@@ -179,15 +216,16 @@ fn note_rule(client: &Client, line: &[u8], rule: &mut Vec<u8>) -> Result<(), All
 fn read_move(
     alloc: Global,
     client: &Client,
+    numbers: Numbers,
     rest: &[u8],
     rule: &mut Vec<u8>,
 ) -> Result<Option<Decision>, AllocError> {
     let mut typed = Vec::new(alloc);
     append_all(&[b"move ", rest], &mut typed)?;
     let mut spelled = Vec::new(alloc);
-    append_spelled(alloc, client, typed.as_slice(), &mut spelled)?;
-    note_rule(client, spelled.as_slice(), rule)?;
-    match read_typed(client, spelled.as_slice()) {
+    append_spelled(alloc, client, numbers, typed.as_slice(), &mut spelled)?;
+    note_rule(client, numbers, spelled.as_slice(), rule)?;
+    match read_typed_by(client, numbers, spelled.as_slice()) {
         Typed::Decision(decision) => Ok(Some(decision)),
         _ => Ok(None),
     }
@@ -235,7 +273,8 @@ fn wish_foreign(
 ) -> Result<Wish, AllocError>
     ensures { SendsUntaken client.now line.new.items result }
 {
-    if is_command(client, typed) {
+    if is_command_by(client, page.settings.numbers, typed) {
+        set_meant(client, page.settings.numbers, line);
         return Ok(Wish::Say);
     }
     if is_passed(typed) {
@@ -243,6 +282,21 @@ fn wish_foreign(
     }
     say_unknown(typed, page)?;
     Ok(Wish::Answered)
+}
+
+/// Says how a line is typed that the client would take: a decision in the numbers that the user reads.
+fn say_without_send(client: &Client, line: &[u8], page: &mut Page<'_>) -> Result<(), AllocError> {
+    page.say(b"Type it without send: ")?;
+    match read_typed(client, line) {
+        Typed::Decision(decision) => {
+            let way = page
+                .settings
+                .numbers
+                .way(client.direction().unwrap_or(Direction::Down));
+            page.show_row(decision_text(&decision, way).as_bytes())
+        }
+        _ => page.show_row(line),
+    }
 }
 
 /// Sends a line as it is, unless the client would take it.
@@ -260,8 +314,7 @@ fn send(
     }
     set_line(line, rest);
     if would_take(client, line.as_slice()) {
-        page.say(b"Type it without send: ")?;
-        page.show_row(rest)?;
+        say_without_send(client, rest, page)?;
         return Ok(Wish::Answered);
     }
     Ok(Wish::Send)
@@ -271,8 +324,8 @@ fn send(
 fn say_moves(story: &Story, rest: &[u8], page: &mut Page<'_>) -> Result<(), AllocError> {
     let alloc = page.alloc;
     match rest {
-        b"" => story.append_turns(alloc, false, &mut page.text),
-        b"all" => story.append_turns(alloc, true, &mut page.text),
+        b"" => story.append_turns(alloc, page.settings.numbers, false, &mut page.text),
+        b"all" => story.append_turns(alloc, page.settings.numbers, true, &mut page.text),
         _ => page.say(WHICH_MOVES),
     }
 }
@@ -289,6 +342,18 @@ fn set_columns(rest: &[u8], page: &mut Page<'_>) -> Result<(), AllocError> {
     Ok(())
 }
 
+/// Places have these numbers now.
+fn set_numbers(rest: &[u8], page: &mut Page<'_>) -> Result<(), AllocError> {
+    let Some(numbers) = read_numbers(rest) else {
+        return page.say(WHICH_NUMBERS);
+    };
+    page.settings.numbers = numbers;
+    page.say(match numbers {
+        Numbers::TheOwn => OWN_NUMBERS,
+        Numbers::TheServers => SERVERS_NUMBERS,
+    })
+}
+
 /// Says that there is no board of the user's own game for which a word asks.
 pub(crate) fn say_no_game(client: &Client, page: &mut Page<'_>) -> Result<(), AllocError> {
     let why = match client.refusal(&Decision::Roll) {
@@ -302,9 +367,16 @@ pub(crate) fn say_no_game(client: &Client, page: &mut Page<'_>) -> Result<(), Al
 fn say_words(client: &Client, watching: &Watching, page: &mut Page<'_>) -> Result<(), AllocError> {
     let alloc = page.alloc;
     let columns = page.settings.columns;
+    let numbers = page.settings.numbers;
     match (watching.board(), client.game()) {
-        (Some(watched), _) => append_watched_words(alloc, watched, columns, &mut page.text),
-        (None, Some(game)) => append_words(alloc, game, columns, &mut page.text),
+        (Some(watched), _) => {
+            let shown = watched_in_numbers(watched, numbers);
+            append_watched_words(alloc, &shown, columns, &mut page.text)
+        }
+        (None, Some(game)) => {
+            let shown = in_numbers(game, numbers);
+            append_words(alloc, &shown, columns, &mut page.text)
+        }
         (None, None) => say_no_game(client, page),
     }
 }
@@ -318,7 +390,7 @@ impl<'a> Screen<'a> {
         line: &mut TypedLine,
     ) -> Result<Wish, AllocError>
         ensures asks { IfOk result (λ wish. AsksInBounds line.old.items (wish_value wish line.new.items)) }
-        ensures known { KnownGoesOn client.now line.old.items line.new.items result }
+        ensures known { KnownGoesOn client.now self.old.page.settings.numbers line.old.items line.new.items result }
         ensures sent { SendsUntaken client.now line.new.items result }
         ensures tried { OnOk result (TriesOrKeeps client.now self.old.page.settings self.old.memory.here.looking.trial
             self.new.memory.here.looking.trial self.old.page.text.items self.new.page.text.items) }
@@ -333,9 +405,11 @@ impl<'a> Screen<'a> {
             return Ok(Wish::TooLong);
         }
         let alloc = self.page.alloc;
+        let numbers = self.page.settings.numbers;
         self.memory.here.rule = Vec::new(alloc);
-        if is_command(client, line.as_slice()) {
-            note_rule(client, line.as_slice(), &mut self.memory.here.rule)?;
+        if is_command_by(client, numbers, line.as_slice()) {
+            note_rule(client, numbers, line.as_slice(), &mut self.memory.here.rule)?;
+            set_meant(client, numbers, line);
             return Ok(Wish::Say);
         }
         self.wish_unknown(client, directory, line)
@@ -356,14 +430,15 @@ impl<'a> Screen<'a> {
             self.new.memory.here.looking.trial self.old.page.text.items self.new.page.text.items) }
     {
         let alloc = self.page.alloc;
-        spell(alloc, client, line)?;
+        let numbers = self.page.settings.numbers;
+        spell(alloc, client, numbers, line)?;
         if line.as_slice() == b"open".as_slice() {
             return Ok(Wish::Open);
         }
         if line.as_slice() == b"quit".as_slice() {
             return Ok(Wish::Quit);
         }
-        note_rule(client, line.as_slice(), &mut self.memory.here.rule)?;
+        note_rule(client, numbers, line.as_slice(), &mut self.memory.here.rule)?;
         let typed = line.as_slice().to_vec(alloc)?;
         self.wish_typed(client, directory, typed.as_slice(), line)
     }
@@ -436,6 +511,7 @@ impl<'a> Screen<'a> {
             }
             Here::Moves => say_moves(&self.memory.here.table.story, small, &mut self.page),
             Here::Columns => set_columns(small, &mut self.page),
+            Here::Numbers => set_numbers(small, &mut self.page),
             Here::Talk => self.memory.program.talk.say_rows(&mut self.page),
             Here::Gag => self.memory.program.people.gag(rest, &mut self.page),
             Here::Ungag => self.memory.program.people.ungag(rest, &mut self.page),
@@ -451,8 +527,9 @@ impl<'a> Screen<'a> {
             self.old.page.text.items self.new.page.text.items) }
     {
         let alloc = self.page.alloc;
+        let numbers = self.page.settings.numbers;
         self.memory.here.looking.forget_trial();
-        let Some(decision) = read_move(alloc, client, rest, &mut self.memory.here.rule)? else {
+        let Some(decision) = read_move(alloc, client, numbers, rest, &mut self.memory.here.rule)? else {
             return self.page.say(TRY_WHAT);
         };
         if let Some(why) = client.refusal(&decision) {

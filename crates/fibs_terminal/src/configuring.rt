@@ -30,6 +30,7 @@ impl<'a> Screen<'a> {
             Some(Setting::NoTitle) => self.page.settings.title = false,
             Some(Setting::Letters(letters)) => self.page.settings.letters = Some(letters),
             Some(Setting::HomeAbove) => self.page.settings.is_turned = true,
+            Some(Setting::Numbers(numbers)) => self.page.settings.numbers = numbers,
             // it is given as if it were typed
             Some(Setting::OrderRoll) => {}
         }

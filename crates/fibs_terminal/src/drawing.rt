@@ -6,12 +6,14 @@ pub mod laws;
 mod look;
 mod outcomes;
 mod picture;
+mod turned;
 mod watched;
 mod watching;
 mod worded;
 
 pub(crate) use boards::Boards;
 pub use picture::{append_marked, append_picture};
+pub(crate) use turned::{in_numbers, watched_in_numbers};
 pub use watched::append_watched;
 pub(crate) use watched::append_watched_words;
 pub(crate) use watching::Watching;

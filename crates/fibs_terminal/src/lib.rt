@@ -10,6 +10,7 @@ pub mod drawing;
 mod listening;
 mod looking;
 mod memory;
+mod numbering;
 mod people;
 mod resting;
 mod screen;

@@ -120,7 +120,7 @@ impl<'a> Screen<'a> {
         }
         let alloc = self.page.alloc;
         self.memory.here.said = Vec::from_slice(alloc, kept_of(said))?;
-        self.page.show_row(said)?;
+        self.show_text(said)?;
         self.note_watching(said)
     }
 

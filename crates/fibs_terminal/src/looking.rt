@@ -7,7 +7,7 @@ ghost use Rattle.fibs_advice.specs.Trials.{tried, tried_on};
 ghost use Rattle.fibs_advice.specs.declared.trial.Trial.{Trial as AnyTrial};
 ghost use Rattle.fibs_terminal.specs.Asking.{SendsUntaken};
 ghost use Rattle.fibs_terminal.specs.Boxes.{kept_looking};
-ghost use Rattle.fibs_terminal.specs.Trying.{IsTriedNow, SendsTried, ShowsTrial, go_row, tried_command};
+ghost use Rattle.fibs_terminal.specs.Trying.{IsTriedNow, SendsTried, ShowsTrial, command_by, go_row};
 
 use crate::commands::{say_no_game, set_line};
 use crate::drawing::append_picture;
@@ -16,7 +16,7 @@ use fibs_advice::trial::Trial;
 use fibs_commands::laws::read_command_is_exact;
 use fibs_connect::typed_line::TypedLine;
 use fibs_connect::wish::Wish;
-use fibs_position::Decision;
+use fibs_position::{Decision, Numbers};
 use fibs_session::Client;
 use fibs_wording::environment::Page;
 use std::alloc::AllocError;
@@ -45,12 +45,12 @@ pub(crate) fn trial_of(client: &Client, decision: &Decision) -> Option<Trial>
     }
 }
 
-/// Appends how a move that is tried is sent.
+/// Appends how a move that is tried is sent, in these numbers.
 #[tactic(auto, unfolding(crate::specs::Trying::go_row))]
-fn append_command(trial: &Trial, text: &mut Vec<u8>) -> Result<(), AllocError>
-    ensures { OnOk result (text.new.items ≡ text.old.items ++ go_row (tried_command trial.now)) }
+fn append_command(trial: &Trial, numbers: Numbers, text: &mut Vec<u8>) -> Result<(), AllocError>
+    ensures { OnOk result (text.new.items ≡ text.old.items ++ go_row (command_by numbers trial.now)) }
 {
-    let command = trial.command();
+    let command = trial.command_by(numbers);
     text.extend_from_slice(b"Not sent yet: go sends ")?;
     text.extend_from_slice(command.as_str().as_bytes())?;
     text.extend_from_slice(b"\n")
@@ -101,13 +101,13 @@ impl Looking {
         let listing = match rest {
             b"" => Some(Listing::of_all()),
             b"more" => Some(self.plays),
-            _ => Listing::from_place(rest, game),
+            _ => Listing::from_place(rest, game, page.settings.numbers),
         };
         let Some(listing) = listing else {
             return page.say(WHICH_PLAYS);
         };
         let alloc = page.alloc;
-        self.plays = append_plays(alloc, game, listing, &mut page.text)?;
+        self.plays = append_plays(alloc, game, page.settings.numbers, listing, &mut page.text)?;
         Ok(())
     }
 
@@ -125,7 +125,7 @@ impl Looking {
     {
         let alloc = page.alloc;
         append_picture(alloc, trial.after(), &page.settings, &mut page.text)?;
-        append_command(&trial, &mut page.text)?;
+        append_command(&trial, page.settings.numbers, &mut page.text)?;
         self.trial = Some(trial);
         Ok(())
     }

@@ -58,14 +58,14 @@ impl Advising {
         situation: &Situation,
         page: &mut Page<'_>,
     ) -> Result<(), AllocError>
-        ensures { OnOk result (SaysRow situation.now self.old.says_again advice.now
+        ensures { OnOk result (SaysRow page.old.settings.numbers situation.now self.old.says_again advice.now
             page.old.text.items page.new.text.items) }
     {
         let alloc = page.alloc;
         let mut row = Vec::new(alloc);
         let opponent = situation.opponent.name.as_slice();
         let inviter = situation.inviter.name.as_slice();
-        append_advice(advice, opponent, inviter, &mut row)?;
+        append_advice(advice, page.settings.numbers, opponent, inviter, &mut row)?;
         if self.says(advice, row.as_slice()) {
             page.text.extend_from_slice(row.as_slice())?;
         }
@@ -104,7 +104,8 @@ impl<'a> Screen<'a> {
         moment: Moment,
     ) -> Result<(), AllocError>
         ensures { OnOk result
-            (SaysAdvice client.now self.old.memory self.old.page.text.items self.new.page.text.items) }
+            (SaysAdvice client.now self.old.page.settings.numbers self.old.memory
+            self.old.page.text.items self.new.page.text.items) }
     {
         let here = &mut self.memory.here;
         let passed = moment.passed.saturating_sub(here.opened);

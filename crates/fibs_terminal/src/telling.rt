@@ -144,7 +144,7 @@ impl<'a> Screen<'a> {
         if bytes == b"who".as_slice() {
             here.list.asked = ListAsked::Everybody;
         }
-        self.page.say_all(&[b"sent ", bytes, b"\n"])
+        self.say_sent(b"sent ", bytes, b"")
     }
 
     /// Says that a line was sent as it is.
@@ -172,15 +172,17 @@ impl<'a> Screen<'a> {
 
     /// The connection is over.
     fn hear_lost(&mut self, waited: &Option<Outstanding>) -> Result<(), AllocError> {
-        let alloc = self.page.alloc;
-        self.memory.change_connection(alloc, Duration::from_secs(0));
         self.page.ring()?;
         if let Some(asked) = waited {
-            self.page.say_all(&[
-                asked.command().as_bytes(),
-                b" may have reached the server or not\n",
-            ])?;
+            let command = asked.command();
+            self.say_sent(
+                b"",
+                command.as_bytes(),
+                b" may have reached the server or not",
+            )?;
         }
+        let alloc = self.page.alloc;
+        self.memory.change_connection(alloc, Duration::from_secs(0));
         self.page.say(b"lost: open connects again, quit ends\n")
     }
 }

@@ -104,8 +104,8 @@ impl<W: Write + Drop, C: Clock + Drop> Words for Terminal<'_, W, C> {
     fn rest(&mut self, client: &Client, directory: &Directory) -> Result<(), FrontFault>
         ensures told { OnOk result (Grown (W.contents self.old.out) (W.contents self.new.out)) }
         // It names only what may be advised in the state of the conversation, by the history.
-        ensures advice { OnOk result (ShowsAdvice client.now self.old.screen.memory
-            (W.contents self.old.out) (W.contents self.new.out)) }
+        ensures advice { OnOk result (ShowsAdvice client.now self.old.screen.page.settings.numbers
+            self.old.screen.memory (W.contents self.old.out) (W.contents self.new.out)) }
     {
         self.screen.page.text.clear();
         let moment = moment_of(&self.clock);
@@ -129,8 +129,10 @@ impl<W: Write + Drop, C: Clock + Drop> Words for Terminal<'_, W, C> {
     ) -> Result<Wish, FrontFault>
         ensures told { OnOk result (Grown (W.contents self.old.out) (W.contents self.new.out)) }
         ensures asks { IfOk result (λ wish. AsksInBounds line.old.items (wish_value wish line.new.items)) }
-        // What the client knows is never respelled: a decision, an order, a line to people.
-        ensures known { KnownGoesOn client.now line.old.items line.new.items result }
+        // A command is taken as it is meant by the numbers that the user reads, and never respelled if it is read so: a
+        // decision, an order, a line to people.
+        ensures known { KnownGoesOn client.now self.old.screen.page.settings.numbers
+            line.old.items line.new.items result }
         // What goes to the server as it is, the client would not take.
         ensures sent { SendsUntaken client.now line.new.items result }
         // A move that is tried from now on is one that the client would take, and its board is shown.

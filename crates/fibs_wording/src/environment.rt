@@ -12,7 +12,7 @@ pub mod shown;
 mod zone;
 
 pub use clock::ClockTime;
-pub use config::{Config, Setting, read_setting};
+pub use config::{Config, Setting, read_numbers, read_setting};
 pub use environment::terminal_settings;
 pub use page::Page;
 pub use settings::Settings;

@@ -20,6 +20,7 @@ Server      watch NAME  unwatch  leave  whois NAME  away TEXT  back  pip
             send LINE: sends LINE as it is, unchecked (send ratings bob)
             bye: leave   open: connect again   quit: end   columns 60: width
             toggle automove, toggle greedy: turns them off, if they are on
+            numbers own: places from 24 down to 1   numbers server: its own
 help WORD says more about a word.
 ";
 
@@ -69,10 +70,15 @@ const COLUMNS: &[u8] = b"\
 columns 60: how wide the terminal is, from 20 to 999. With rlwrap fibs-play\n\
 says it by itself before the next line, if the window has another size.\n";
 
+const NUMBERS: &[u8] = b"\
+numbers own: places have your own numbers, and your checkers go from 24 down\n\
+to 1, whichever way the server counts. numbers server: they have the server's.\n\
+What you type is read so. send LINE goes as it is, in the server's numbers.\n";
+
 const HELP: &[u8] = b"help (or ?): lists what you can type. help WORD: says more about a word.\n";
 
 /// What there is to say of each word: of the game, of matches, of talk, of the terminal.
-static WORDS: [(&[u8], &[u8]); 51] = [
+static WORDS: [(&[u8], &[u8]); 52] = [
     (b"roll", ROLL),
     (b"r", ROLL),
     (
@@ -197,6 +203,7 @@ is told so, in place of its picture.\n",
         b"open: connects again. invite NAME then resumes a match that was saved.\n",
     ),
     (b"columns", COLUMNS),
+    (b"numbers", NUMBERS),
     (b"quit", b"quit: ends the program.\n"),
     (b"help", HELP),
     (b"?", HELP),

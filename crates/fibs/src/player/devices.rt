@@ -18,7 +18,7 @@ use fibs_engine::status::Status;
 use fibs_engine::writing::write_bytes;
 use fibs_fields::boards::Board;
 use fibs_fields::fixed::append;
-use fibs_position::GameBoard;
+use fibs_position::{GameBoard, Numbers};
 use fibs_terminal::Terminal;
 use fibs_terminal::drawing::append_picture;
 use fibs_wording::environment::{Clocks, Config, Settings, terminal_settings};
@@ -117,7 +117,8 @@ fn show_lines(
     unless_memory_ran_out(shown, &front)
 }
 
-/// Draws the board that a line says, if the user plays in its game; nothing for any other line.
+/// Draws the board that a line says, if the user plays in its game, in the numbers of the line, as its plays have them;
+/// nothing for any other line.
 ///
 /// Errors: `Device` if the standard output fails, `Memory`.
 fn draw(rt: &HostRuntime, streams: &mut Streams, line: &[u8]) -> Result<(), EngineFault> {
@@ -126,8 +127,10 @@ fn draw(rt: &HostRuntime, streams: &mut Streams, line: &[u8]) -> Result<(), Engi
     match Board::read(line) {
         Ok(board) => match GameBoard::of(&board) {
             Ok(game) => {
+                let mut settings = settings_of(rt, &clocks);
+                settings.numbers = Numbers::TheServers;
                 let mut text = Vec::new(alloc);
-                append_picture(alloc, &game, &settings_of(rt, &clocks), &mut text)?;
+                append_picture(alloc, &game, &settings, &mut text)?;
                 write_bytes(text.as_slice(), &mut streams.out)?;
                 Ok(())
             }

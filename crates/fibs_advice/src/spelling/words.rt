@@ -6,7 +6,7 @@ use bstr::ByteSlice;
 use fibs_commands::{CommandText, decision_text};
 use fibs_fields::split::split;
 use fibs_fields::trailing_spaces::without_spaces;
-use fibs_position::{Decision, Play};
+use fibs_position::{Decision, Numbers, Play};
 use fibs_session::Client;
 use std::alloc::{AllocError, Global};
 
@@ -60,18 +60,19 @@ fn meant(alloc: Global, client: &Client, typed: &Play) -> Result<Play, AllocErro
     }
 }
 
-/// The command of the move that the words say, if they say one.
+/// The command of the move that the words say, if they say one, in the numbers in which they are.
 fn move_command(
     alloc: Global,
     client: &Client,
+    numbers: Numbers,
     words: &[u8],
 ) -> Result<Option<CommandText>, AllocError> {
-    let direction = direction(client);
-    match typed_move(words, direction) {
+    let way = numbers.way(direction(client));
+    match typed_move(words, way) {
         None => Ok(None),
         Some(typed) => {
             let play = meant(alloc, client, &typed)?;
-            Ok(Some(decision_text(&Decision::Move(play), direction)))
+            Ok(Some(decision_text(&Decision::Move(play), way)))
         }
     }
 }
@@ -101,12 +102,13 @@ fn move_words<'a>(word: &[u8], rest: Option<&'a [u8]>, line: &'a [u8]) -> &'a [u
 fn append_meaning(
     alloc: Global,
     client: &Client,
+    numbers: Numbers,
     line: &[u8],
     text: &mut Vec<u8>,
 ) -> Result<(), AllocError> {
     let (word, rest) = split(line, b' ');
     let word = long_word(word);
-    match move_command(alloc, client, move_words(word, rest, line))? {
+    match move_command(alloc, client, numbers, move_words(word, rest, line))? {
         Some(command) => text.extend_from_slice(command.as_bytes()),
         None => append_word(word, rest, text),
     }
@@ -116,11 +118,12 @@ fn append_meaning(
 fn append_plain(
     alloc: Global,
     client: &Client,
+    numbers: Numbers,
     line: &[u8],
     text: &mut Vec<u8>,
 ) -> Result<(), AllocError> {
     let small = line.to_ascii_lowercase(alloc)?;
-    append_meaning(alloc, client, small.as_slice(), text)
+    append_meaning(alloc, client, numbers, small.as_slice(), text)
 }
 
 /// Appends a line without the spaces at its ends, and its first word in small letters.
@@ -132,13 +135,14 @@ pub fn append_small_word(alloc: Global, line: &[u8], text: &mut Vec<u8>) -> Resu
     append_word(small.as_slice(), rest, text)
 }
 
-/// Appends the spelling of a line that the client does not know. What is sent to people stays as it is, but for the
-/// spaces before it and the case of its first word.
+/// Appends the spelling of a line that the client does not know: a move is read and spelled in these numbers. What is
+/// sent to people stays as it is, but for the spaces before it and the case of its first word.
 ///
 /// Errors: if memory runs out.
 pub fn append_spelled(
     alloc: Global,
     client: &Client,
+    numbers: Numbers,
     line: &[u8],
     text: &mut Vec<u8>,
 ) -> Result<(), AllocError> {
@@ -152,5 +156,5 @@ pub fn append_spelled(
     if takes_name(word) {
         return append_word(word, rest.map(without_spaces), text);
     }
-    append_plain(alloc, client, without_spaces(line), text)
+    append_plain(alloc, client, numbers, without_spaces(line), text)
 }

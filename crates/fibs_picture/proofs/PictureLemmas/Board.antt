@@ -11,7 +11,8 @@ use Rattle.fibs_position.specs.declared.direction.Direction.{Direction}
 use Rattle.fibs_position.specs.declared.direction.Direction.TheVariants.{Down, Up}
 use Rattle.fibs_picture.specs.Cell.{label, byte_at, place_of, place_ink, seen_column, seen_row}
 use Rattle.fibs_picture.specs.Ink.{stack}
-use Rattle.fibs_picture.specs.Look.{HasLetters, counted}
+use Rattle.fibs_picture.specs.Look.{HasLetters}
+use Rattle.fibs_position.specs.NumbersOf.{counted}
 use Rattle.fibs_picture.specs.Strip.{strip_at, is_left_out, board_width}
 use Rattle.fibs_picture.specs.Rows.{SameRow, FiveRows, AlikeRows, CellsTell}
 use Rattle.fibs_picture.specs.declared.cell.Drawn.{Drawn}
@@ -19,8 +20,8 @@ use Rattle.fibs_picture.specs.declared.cell.Drawn.TheVariants as D
 use Rattle.fibs_picture.specs.declared.cell.Half.{Half}
 use Rattle.fibs_picture.specs.declared.cell.Half.TheVariants as half
 use Rattle.fibs_picture.specs.declared.look.Look.{Look}
-use Rattle.fibs_picture.specs.declared.look.Numbers.{Numbers}
-use Rattle.fibs_picture.specs.declared.look.Numbers.TheVariants as N
+use Rattle.fibs_position.specs.declared.numbers.Numbers.{Numbers}
+use Rattle.fibs_position.specs.declared.numbers.Numbers.TheVariants as N
 use Rattle.fibs_picture.specs.declared.strip.Strip.TheVariants as S
 use Rattle.fibs_picture.proofs.PictureLemmas.Rows.{parts-tell, rows-wide, columns-same, nth-of, map-same}
 use Rattle.fibs_picture.proofs.PictureLemmas.Reading.{OneSide, ink-tells, stack-small, inks-tell}

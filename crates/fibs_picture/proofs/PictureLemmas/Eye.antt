@@ -6,7 +6,8 @@ use Rattle.fibs_position.specs.PositionValue.{PositionValue}
 use Rattle.fibs_position.specs.declared.direction.Direction.{Direction}
 use Rattle.fibs_picture.specs.Cell.{label, floor, ink_at, byte_at, mark_at, place_of, drawn_column, seen_column}
 use Rattle.fibs_picture.specs.Ink.{byte_of}
-use Rattle.fibs_picture.specs.Look.{HasLetters, counted}
+use Rattle.fibs_picture.specs.Look.{HasLetters}
+use Rattle.fibs_position.specs.NumbersOf.{counted}
 use Rattle.fibs_picture.specs.Marks.{seen, seen_from, marked}
 use Rattle.fibs_picture.specs.Strip.{strip_at, is_left_out, board_width}
 use Rattle.fibs_picture.specs.Rows.{EyeSees}

@@ -22,7 +22,8 @@ use Rattle.fibs_position.specs.declared.direction.Direction.{Direction}
 use Rattle.fibs_position.specs.declared.direction.Direction.TheVariants.{Down, Up}
 use Rattle.fibs_picture.specs.Cell.{label, floor, place_of, ink_at, byte_at, seen_column, seen_row}
 use Rattle.fibs_picture.specs.Ink.{stack, byte_of, IsSmall}
-use Rattle.fibs_picture.specs.Look.{IsLetter, HasLetters, counted}
+use Rattle.fibs_picture.specs.Look.{IsLetter, HasLetters}
+use Rattle.fibs_position.specs.NumbersOf.{counted}
 use Rattle.fibs_picture.specs.Notes.{is_long, spaced, room, lettered, labelled, two_dice, match_words, whose, doublers, others_turn, turn_words, note}
 use Rattle.fibs_picture.specs.Picture.{own_pips, other_pips, is_one}
 use Rattle.fibs_picture.specs.Strip.{strip_at, is_below, is_left_out, board_width, IsWithin}

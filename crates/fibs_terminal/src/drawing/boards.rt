@@ -12,7 +12,7 @@ use fibs_fields::boards::fields::{
     SECOND_DIE,
 };
 use fibs_picture::NO_ARRIVALS;
-use fibs_position::{GameBoard, Phase};
+use fibs_position::{Direction, GameBoard, Phase};
 use fibs_wording::environment::Page;
 use fibs_wording::environment::pieces::{append_all, short_name};
 use itoa::Buffer;
@@ -95,6 +95,14 @@ impl Boards {
             Some(board)
         } else {
             None
+        }
+    }
+
+    /// Which way the user goes by the server's numbers on the board that came last.
+    pub fn direction(&self) -> Option<Direction> {
+        match &self.heard {
+            None => None,
+            Some(heard) => Some(heard.direction()),
         }
     }
 

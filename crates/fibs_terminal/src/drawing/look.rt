@@ -2,7 +2,7 @@
 ghost use Rattle.std.specs.Prelude.{◌≡◌};
 ghost use Rattle.fibs_terminal.specs.Drawings.{is_plain, letters_of, look_of};
 
-use fibs_picture::{Look, Numbers, are_letters};
+use fibs_picture::{Look, are_letters};
 use fibs_wording::environment::Settings;
 
 /// The letters of the player's checkers and of the opponent's, if the user has no others.
@@ -46,7 +46,7 @@ pub(crate) fn look_of(settings: &Settings<'_>) -> Look
     Look {
         own: letters[0],
         other: letters[1],
-        numbers: Numbers::TheServers,
+        numbers: settings.numbers,
         is_turned: settings.is_turned,
         is_marked: settings.colour,
         is_long: is_plain(settings),

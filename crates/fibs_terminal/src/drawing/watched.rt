@@ -1,10 +1,12 @@
 //! A board that the user watches, as the terminal has it: drawn, or told in words.
 ghost use Rattle.std.specs.Prelude.{◌≡◌, ◌++◌, OnOk, List, ℕ, true, false};
 ghost use Rattle.fibs_position.specs.WatchedOf.{watched_of};
+ghost use Rattle.fibs_position.specs.declared.numbers.Numbers.TheVariants.{TheServers};
 ghost use Rattle.fibs_terminal.specs.Drawings.{Draws, is_wide, is_worded};
 ghost use Rattle.fibs_terminal.specs.WatchedDrawings.{TellsWatched};
 
 use crate::drawing::look::look_of;
+use crate::drawing::turned::watched_in_numbers;
 use crate::drawing::worded::{append_rows, is_wide};
 use fibs_picture::NO_ARRIVALS;
 use fibs_picture::in_words::tell_watched;
@@ -51,11 +53,12 @@ pub fn append_watched(
 ) -> Result<(), AllocError>
     ensures drawn { settings.now.words ≡ false → OnOk result ((t : List ℕ)
         × Draws settings.now true false (watched_of watched.now) t × (text.new.items ≡ text.old.items ++ t)) }
-    ensures told { is_worded settings.now ≡ true → OnOk result ((t : List ℕ)
+    ensures told { settings.now.numbers ≡ TheServers → is_worded settings.now ≡ true → OnOk result ((t : List ℕ)
         × TellsWatched (watched_of watched.now) t × (text.new.items ≡ text.old.items ++ t)) }
 {
     if settings.words {
-        return append_watched_words(alloc, watched, settings.columns, text);
+        let told = watched_in_numbers(watched, settings.numbers);
+        return append_watched_words(alloc, &told, settings.columns, text);
     }
     let look = look_of(settings);
     fibs_picture::append_watched(alloc, &look, watched, &NO_ARRIVALS, text)

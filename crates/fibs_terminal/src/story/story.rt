@@ -9,7 +9,7 @@ use fibs_fields::boards::fields::{
     FIRST_DIE, MATCH_LENGTH, OTHER_FIRST_DIE, OTHER_SCORE, OWN_SCORE, SECOND_DIE,
 };
 use fibs_fields::decimal::append_number;
-use fibs_position::{Decision, GameBoard, Phase, Play, differs};
+use fibs_position::{Decision, Direction, GameBoard, Numbers, Phase, Play, differs};
 use itoa::Buffer;
 use std::alloc::{AllocError, Global};
 
@@ -138,13 +138,14 @@ impl Story {
         Ok(())
     }
 
-    /// Appends a row for each turn, numbered: who rolled what, and the play; `?` if the boards do not show which. They
-    /// are the last 20, unless all are asked for.
+    /// Appends a row for each turn, numbered: who rolled what, and the play, in the numbers that the user reads; `?` if
+    /// the boards do not show which. They are the last 20, unless all are asked for.
     ///
     /// Errors: if memory runs out.
     pub fn append_turns(
         &self,
         alloc: Global,
+        numbers: Numbers,
         is_all: bool,
         text: &mut Vec<u8>,
     ) -> Result<(), AllocError> {
@@ -164,7 +165,7 @@ impl Story {
         }
         for place in first..count {
             let number = place.saturating_add(self.forgotten).saturating_add(1);
-            append_turn(alloc, &self.turns[place], number, text)?;
+            append_turn(alloc, numbers, &self.turns[place], number, text)?;
         }
         Ok(())
     }
@@ -209,19 +210,23 @@ fn append_dice(turn: &PlayedTurn, text: &mut Vec<u8>) -> Result<(), AllocError> 
     text.extend_from_slice(b":")
 }
 
-/// Appends a play: its steps as they are typed.
-fn append_play(
-    play: Option<Play>,
-    before: &GameBoard,
-    text: &mut Vec<u8>,
-) -> Result<(), AllocError> {
+/// Which way he who has rolled goes by the numbers that the user reads: by the user's own his opponent goes up.
+fn way_of(turn: &PlayedTurn, numbers: Numbers) -> Direction {
+    match (turn.roller, numbers) {
+        (Roller::Other, Numbers::TheOwn) => Direction::Up,
+        _ => numbers.way(turn.before.direction()),
+    }
+}
+
+/// Appends a play: its steps as they are typed, by numbers by which he who plays goes this way.
+fn append_play(play: Option<Play>, way: Direction, text: &mut Vec<u8>) -> Result<(), AllocError> {
     let Some(play) = play else {
         return text.extend_from_slice(b" ?");
     };
     if play.steps().is_empty() {
         return text.extend_from_slice(b" no move");
     }
-    let command = decision_text(&Decision::Move(play), before.direction());
+    let command = decision_text(&Decision::Move(play), way);
     let bytes = command.as_bytes();
     text.extend_from_slice(&bytes[MOVE_WORD.min(bytes.len())..])
 }
@@ -229,6 +234,7 @@ fn append_play(
 /// Appends the row of a turn.
 fn append_turn(
     alloc: Global,
+    numbers: Numbers,
     turn: &PlayedTurn,
     number: usize,
     text: &mut Vec<u8>,
@@ -238,7 +244,7 @@ fn append_turn(
     append_dice(turn, text)?;
     append_play(
         played(alloc, &turn.before, &turn.after)?,
-        &turn.before,
+        way_of(turn, numbers),
         text,
     )?;
     text.extend_from_slice(b"\n")

@@ -7,7 +7,7 @@ use fibs_connect::typed_line::TypedLine;
 use fibs_connect::wish::Wish;
 use fibs_connect::words::Words;
 use fibs_messages::Reading;
-use fibs_position::GameBoard;
+use fibs_position::{GameBoard, Numbers};
 use fibs_session::typed::typing::{Typed, read_typed};
 use fibs_session::{Client, Directory, Login, Taken};
 use fibs_terminal::Terminal;
@@ -57,6 +57,7 @@ pub fn narrow_settings() -> Settings<'static> {
         title: false,
         letters: None,
         is_turned: false,
+        numbers: Numbers::TheOwn,
         words: false,
         utf8: false,
         zone: Zone::utc(),

@@ -1,6 +1,7 @@
 //! A file of the user's own settings.
 
 use fibs_fields::split::split;
+use fibs_position::Numbers;
 use std::alloc::AllocError;
 use std::env::VarError;
 use std::fs::{File, metadata};
@@ -41,6 +42,17 @@ pub enum Setting<'a> {
     Letters([u8; 2]),
     /// The player's home is above in a picture.
     HomeAbove,
+    /// Whose numbers the places have.
+    Numbers(Numbers),
+}
+
+/// Whose numbers a word says: `own` or `server`.
+pub fn read_numbers(word: &[u8]) -> Option<Numbers> {
+    match word {
+        b"own" => Some(Numbers::TheOwn),
+        b"server" => Some(Numbers::TheServers),
+        _ => None,
+    }
 }
 
 /// Whether a byte may be the letter of checkers. It must not be one that a picture has for something else.
@@ -62,8 +74,8 @@ fn letters_in(own: &[u8], other: &[u8]) -> Option<[u8; 2]> {
 }
 
 /// What a line of the file asks for: `quiet`, `gag NAME`, `words`, `no colour`, `no bell`, `no title`, `order roll`,
-/// `letters O X`, `home above`; `server HOST PORT NAME` and `log FILE` are for who starts the program. None for any
-/// other line.
+/// `letters O X`, `home above`, `numbers own` or `numbers server`; `server HOST PORT NAME` and `log FILE` are for who
+/// starts the program. None for any other line.
 pub fn read_setting(line: &[u8]) -> Option<Setting<'_>> {
     let line = line.trim_ascii();
     match line {
@@ -83,6 +95,7 @@ pub fn read_setting(line: &[u8]) -> Option<Setting<'_>> {
             let (own, other) = split(letters, b' ');
             Some(Setting::Letters(letters_in(own, other?)?))
         }
+        (b"numbers", Some(word)) => Some(Setting::Numbers(read_numbers(word)?)),
         (b"server", Some(place)) if is_place(place) => Some(Setting::Nothing),
         (b"log", Some(_)) => Some(Setting::Nothing),
         _ if line.starts_with(b"#") => Some(Setting::Nothing),

@@ -3,6 +3,7 @@
 use crate::environment::settings::Settings;
 use crate::environment::zone::Zone;
 use fibs_fields::split::split;
+use fibs_position::Numbers;
 use std::env;
 
 /// The columns of a terminal if the environment does not say them.
@@ -96,6 +97,7 @@ pub fn terminal_settings<'a>(
         title: has_title(rt) && !is_set(rt, "FIBS_QUIET"),
         letters: None,
         is_turned: false,
+        numbers: Numbers::TheOwn,
         words: is_set(rt, "FIBS_WORDS"),
         utf8: is_utf8(rt),
         zone,

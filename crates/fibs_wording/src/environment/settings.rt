@@ -1,6 +1,7 @@
 //! What a terminal is.
 
 use crate::environment::zone::Zone;
+use fibs_position::Numbers;
 
 /// What kind of terminal it is, as the environment says, and the address of the server.
 #[derive(Clone, Copy)]
@@ -17,6 +18,8 @@ pub struct Settings<'a> {
     pub letters: Option<[u8; 2]>,
     /// Whether the player's home is above in a picture.
     pub is_turned: bool,
+    /// Whose numbers the places have.
+    pub numbers: Numbers,
     /// Whether a board is told in words, in place of its picture.
     pub words: bool,
     /// Whether it shows letters beyond ASCII, as UTF-8.

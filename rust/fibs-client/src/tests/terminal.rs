@@ -10,6 +10,7 @@ mod endings;
 mod flushing;
 mod lines;
 mod messages;
+mod numbers;
 mod offers;
 mod others;
 mod passwords;

@@ -2,6 +2,7 @@
 
 use super::lines::{MOVED, SETTINGS, TO_MOVE, TO_ROLL, WELCOME};
 use crate::fibs_advice::offers::{append_offers, offered};
+use crate::fibs_position::Numbers;
 use crate::fibs_session::{Client, Login};
 use crate::rattle::alloc::AllocError;
 
@@ -47,7 +48,7 @@ fn greeted() -> Client {
 /// Whether this is said below a board.
 fn is_said(client: &Client, said: &[u8]) -> Result<bool, AllocError> {
     let mut text = Vec::new();
-    append_offers(&offered(client)?, &mut text)?;
+    append_offers(&offered(client)?, Numbers::TheServers, &mut text)?;
     Ok(text.as_slice() == said)
 }
 

@@ -2,8 +2,8 @@
 //! picture says can be done.
 
 use crate::fibs_fields::boards::Board;
-use crate::fibs_picture::{Look, NO_ARRIVALS, Numbers, append_game};
-use crate::fibs_position::GameBoard;
+use crate::fibs_picture::{Look, NO_ARRIVALS, append_game};
+use crate::fibs_position::{GameBoard, Numbers};
 
 /// How a terminal of 80 columns draws that shows nothing in bold.
 pub const PLAIN: Look = Look {

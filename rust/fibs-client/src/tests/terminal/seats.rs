@@ -8,7 +8,7 @@ use crate::fibs_connect::typed_line::TypedLine;
 use crate::fibs_connect::wish::Wish;
 use crate::fibs_connect::words::Words;
 use crate::fibs_messages::Reading;
-use crate::fibs_position::GameBoard;
+use crate::fibs_position::{GameBoard, Numbers};
 use crate::fibs_session::typed::typing::{Typed, read_typed};
 use crate::fibs_session::{Client, Directory, Login, Taken};
 use crate::fibs_terminal::Terminal;
@@ -54,6 +54,7 @@ pub fn plain_settings() -> Settings<'static> {
         title: false,
         letters: None,
         is_turned: false,
+        numbers: Numbers::TheServers,
         columns: 80,
         colour: false,
         bell: false,

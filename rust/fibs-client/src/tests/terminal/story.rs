@@ -1,7 +1,7 @@
 //! The game so far: each play of a game is told by the boards before and after it.
 
 use crate::fibs_fields::boards::Board;
-use crate::fibs_position::{Decision, GameBoard, Play, effect};
+use crate::fibs_position::{Decision, GameBoard, Numbers, Play, effect};
 use crate::fibs_terminal::story::{Story, mirrored, played};
 
 /// The board with which a game begins, without dice.
@@ -81,7 +81,7 @@ fn story_of(boards: &[Board], is_all: bool) -> String {
         story.hear_board(&good(board)).expect("memory");
     }
     let mut text = Vec::new();
-    story.append_turns(is_all, &mut text).expect("memory");
+    story.append_turns(Numbers::TheServers, is_all, &mut text).expect("memory");
     String::from_utf8(text).expect("ASCII")
 }
 

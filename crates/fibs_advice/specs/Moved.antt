@@ -1,0 +1,29 @@
+-- A text by which the server tells a move, as `bob moves 12-15 15-18 .` (FIBS), and the same in the user's numbers; and
+-- a command that was sent, with its steps in those (the project's own).
+use Rattle.std.specs.Prelude.{◌++◌, ℕ, List, [], ◌∷◌, Option, Some, codes}
+use Rattle.fibs_rules.specs.Hop.{Hop}
+use Rattle.fibs_position.specs.DecisionValue.{DecisionValue, move}
+use Rattle.fibs_position.specs.NumbersOf.{counted}
+use Rattle.fibs_position.specs.declared.direction.Direction.{Direction}
+use Rattle.fibs_position.specs.declared.direction.Direction.TheVariants.{Down, Up}
+use Rattle.fibs_position.specs.declared.numbers.Numbers.{Numbers}
+use Rattle.fibs_commands.specs.CommandReading.{read_command}
+use Rattle.fibs_commands.specs.Commands.{steps_text}
+
+-- who moves, and each step, by numbers by which the user goes this way: a place is one place, whoever comes to it
+abbrev pub moved_text : Direction → List ℕ → List Hop → List ℕ
+moved_text way name steps = name ++ (codes " moves" ++ (steps_text way steps ++ codes " ."))
+
+-- the steps of a move in the numbers that the user reads, behind a command in those of the server
+unfoldable pub beside_text : List Hop → List ℕ
+beside_text steps = codes " (in your numbers" ++ (steps_text Down steps ++ codes ")")
+
+-- they stand there if they differ: the user goes up by the server's numbers, and down by those that he reads
+abbrev pub beside_in : Direction → Direction → Option DecisionValue → List ℕ
+beside_in Up Down (Some (move (step ∷ steps))) = beside_text (step ∷ steps)
+beside_in direction way d = []
+
+-- a command that was sent from a board on which the user goes this way
+abbrev pub sent_text : Numbers → Direction → List ℕ → List ℕ
+sent_text numbers direction command =
+    command ++ beside_in direction (counted numbers direction) (read_command direction command)

@@ -1,0 +1,67 @@
+//! What the server says and hears in its numbers, as the user reads it in his.
+
+use crate::screen::Screen;
+use fibs_advice::moved::{append_moved, append_sent, names_steps, read_moved};
+use fibs_fields::trailing_spaces::without_spaces;
+use fibs_position::{Direction, Numbers};
+use fibs_wording::environment::pieces::append_all;
+use std::alloc::AllocError;
+
+/// What is said behind places whose numbers may not be those that the user reads.
+const THE_SERVERS: &[u8] = b" (the server's numbers)";
+
+impl<'a> Screen<'a> {
+    /// Which way the user goes by the server's numbers, or the player whom he watches, if a board shows it.
+    fn shown_direction(&self) -> Option<Direction> {
+        if let Some(watched) = self.memory.here.watching.board() {
+            return Some(Direction::of(watched.board()));
+        }
+        self.memory.here.table.boards.direction()
+    }
+
+    /// Says between these words a command that was sent: of a move also its steps in the numbers that the user reads,
+    /// if those are others.
+    pub(crate) fn say_sent(
+        &mut self,
+        before: &[u8],
+        command: &[u8],
+        after: &[u8],
+    ) -> Result<(), AllocError> {
+        let shown = self.memory.here.table.boards.direction();
+        let direction = shown.unwrap_or(Direction::Down);
+        let numbers = self.page.settings.numbers;
+        let alloc = self.page.alloc;
+        let mut sent = Vec::new(alloc);
+        append_sent(command, direction, numbers, &mut sent)?;
+        let start = self.page.text.len();
+        self.page.say_all(&[before, sent.as_slice(), after])?;
+        if sent.len() == command.len() {
+            self.page.say(b"\n")
+        } else {
+            self.page.end_row(start)
+        }
+    }
+
+    /// Shows a text of the server. Of a move the places have the numbers that the user reads; of other texts that name
+    /// places it says whose numbers they have, if those may be others.
+    pub(crate) fn show_text(&mut self, said: &[u8]) -> Result<(), AllocError> {
+        let numbers = self.page.settings.numbers;
+        let shown = self.shown_direction();
+        if numbers == Numbers::TheServers || shown == Some(Direction::Down) {
+            return self.page.show_row(said);
+        }
+        let alloc = self.page.alloc;
+        let mut row = Vec::new(alloc);
+        if let Some(direction) = shown {
+            if let Some(moved) = read_moved(alloc, without_spaces(said), direction)? {
+                append_moved(moved.name, &moved.play, numbers.way(direction), &mut row)?;
+                return self.page.show_row(row.as_slice());
+            }
+        }
+        if !names_steps(said) {
+            return self.page.show_row(said);
+        }
+        append_all(&[said, THE_SERVERS], &mut row)?;
+        self.page.show_row(row.as_slice())
+    }
+}
