@@ -4,6 +4,7 @@ use Rattle.std.specs.Result.{IsErrOf}
 use Rattle.fibs_fields.specs.Board.{BoardFields, BoardText}
 use Rattle.fibs_position.specs.GoodBoard.{good, IsGood}
 use Rattle.fibs_position.specs.Laws.{GoodIsExact}
+use Rattle.fibs_session.specs.Fibs.{fibs}
 use Rattle.fibs_session.specs.History.Log.{Entry}
 use Rattle.fibs_model.specs.EventOf.{event_of}
 use Rattle.fibs_model.specs.Events.{Event}
@@ -30,7 +31,7 @@ use Rattle.fibs_replay.proofs.ScriptLemmas.Scripts.{ReadsLine}
 -- events that may be
 
 -- no event is refused if there is none
-pub may_be_none : (login : List ℕ) (first : BoardFields) → MayBe login first []
+pub may_be_none : (login : List ℕ) (first : BoardFields) → MayBe {G = fibs} login first []
 unfolding MayBe
 may_be_none login first = tt
 
