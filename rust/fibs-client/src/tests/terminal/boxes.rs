@@ -506,3 +506,23 @@ fn the_game_that_is_watched_is_told_first() {
     let text = shown_later(&watched, &[Cue::Types(b"words")]);
     assert_wanted(text.contains("dave") && !text.contains("bob"), &text, "the game of dave");
 }
+
+/// A board of an own game ends what is watched.
+#[test]
+fn an_own_board_is_told_after_one_that_is_watched() {
+    let played = [&FIRST_BOARD[..], &[Cue::Hears(WATCHED), Cue::Hears(TO_MOVE)]].concat();
+    let text = shown_later(&played, &[Cue::Types(b"words")]);
+    assert_wanted(text.contains("Your dice 6 and 2.") && !text.contains("dave"), &text, "the own game");
+}
+
+/// A board that was asked for is drawn whole, also if a line that decides went as it is meanwhile.
+#[test]
+fn a_board_that_was_asked_for_is_drawn() {
+    let moved = [&FIRST_BOARD[..], &[Cue::Hears(MOVED), Cue::Rests]].concat();
+    for asks in [&[Cue::Types(b"board")][..], &[Cue::Types(b"board"), Cue::Types(b"send roll")]] {
+        let text = shown_later(&[&moved, asks].concat(), &[Cue::Hears(MOVED)]);
+        assert_wanted(text.contains("   O You"), &text, "the picture");
+    }
+    let text = shown_later(&moved, &[Cue::Hears(MOVED)]);
+    assert_wanted(text.is_empty(), &text, "nothing");
+}

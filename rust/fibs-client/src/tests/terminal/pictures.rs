@@ -357,7 +357,11 @@ type Pair = (&'static str, usize, [[&'static str; 4]; 2]);
 
 /// Pairs of boards whose pictures were once the same: words were cut, or a name was taken for a word.
 static PAIRS: [Pair; 4] = [
-    ("nobody has the turn, or one who is called so", 80, [["nobody", "1", "0", "1:0:0"], ["nobody", "1", "-1", "1:0:0"]]),
+    (
+        "nobody has the turn, or one who is called so",
+        80,
+        [["nobody", "1", "0", "1:0:0"], ["nobody", "1", "-1", "1:0:0"]],
+    ),
     ("a score of eight digits", 60, [["bob", "12345678", "1", "1:1:1"], ["bob", "12345679", "1", "1:1:1"]]),
     ("a cube that nobody may turn, or `dead` may", 60, [["dead", "1", "1", "128:0:0"], ["dead", "1", "1", "128:0:1"]]),
     ("a cube that both may turn, or `fred` may", 60, [["fred", "1", "1", "1024:1:1"], ["fred", "1", "1", "1024:0:1"]]),
