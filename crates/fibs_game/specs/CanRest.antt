@@ -1,5 +1,6 @@
--- Nobody is ever stuck: a world in which a connection is open can come to rest, without a new connection (the project's
--- own). The server takes the lines that are on their way to it, and the bytes on their way to the client are delivered.
+-- No wait lasts: a world in which a connection is open can come to rest, without a new connection (the project's own).
+-- At rest the client may still refuse each click. The server takes the lines that are on their way to it, and the bytes
+-- on their way to the client are delivered.
 use Rattle.std.specs.Prelude.{◌≡◌, ℕ, ◌+◌, ◌≤◌, true, List, [], ◌∷◌, ◌++◌, Option, Some, None, if◌then◌else◌, is_some, length}
 use Rattle.fibs_game.specs.Game.{Game}
 use Rattle.fibs_game.specs.Words.{is_empty, open_now}

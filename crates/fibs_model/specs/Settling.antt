@@ -6,7 +6,7 @@ use Rattle.fibs_commands.specs.Logins.{login_text}
 use Rattle.fibs_session.specs.History.Words.{last, open_now, shown}
 use Rattle.fibs_model.specs.Acts.{acts_after}
 use Rattle.fibs_model.specs.Agrees.{BoardsAgree}
-use Rattle.fibs_model.specs.CanRest.{OnlyWires, WithDice, asked_now}
+use Rattle.fibs_model.specs.CanRest.{EachNext, OnlyWires, WithDice, asked_now}
 use Rattle.fibs_model.specs.Events.{Event}
 use Rattle.fibs_model.specs.Headline.{IsAtRest}
 use Rattle.fibs_model.specs.Joint.{AreLines}
@@ -28,6 +28,8 @@ pub record Settled (v : WorldValue) (name password : List ℕ) (first : BoardFie
   pub events : List Event
   pub many : length events ≡ done
   pub stands : WorldStandsAfter v name password first (before ++ events)
+  -- each of them is what comes next on the way to rest
+  pub next : EachNext (login_text name password) d1 d2 (machine_after name password first before) events
   -- they only serve lines of the open connection, with these dice, or deliver bytes
   pub only_wires : OnlyWires (open_now (machine_after name password first before).log) events
   pub with_dice : WithDice d1 d2 events

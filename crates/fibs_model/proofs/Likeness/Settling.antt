@@ -148,6 +148,7 @@ module _ (name password : List ℕ) (first : BoardFields) (before : List Event) 
     events = [];
     many = refl;
     stands = way.stands;
+    next = tt;
     only_wires = tt;
     with_dice = tt;
     few = λ lines are. omega arith;
@@ -206,6 +207,7 @@ module _ (name password : List ℕ) (first : BoardFields) (before : List Event) 
       events = a.events;
       many = a.many;
       stands = a.stands;
+      next = a.each;
       only_wires = l.only_wires;
       with_dice = l.with_dice;
       few = λ lines are. let few = l.few lines are in let many = a.many in omega arith;
