@@ -61,5 +61,5 @@ module _ (law : Lawful fibs) (good : GoodIsExact)
   pub real_way : ThisWayLeadsToRest
   real_way name password first before is h may some d1 d2 i1 i2 =
       any.way fibs law (login_text name password) first before (quiet name password is) ((good first).1 h) may some d1
-          d2
+      d2
       (die_test d1 i1) (die_test d2 i2)

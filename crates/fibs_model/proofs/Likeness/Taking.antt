@@ -33,7 +33,7 @@ module _ (links : List Link) (c : ℕ) (l k : Link) (some : 0 < c) (known : c �
         next = ap (λ (x : LinkValue). next_line x.asked) was ∙ next;
         answer =
             t.answer ∙ ap (λ (x : LinkValue). (answered_at fibs) old.board old.logged_in c x.fresh (take len asked) d1
-                d2)
+            d2)
             (sym was);
         server = t.server;
         links = link_set links c k _
