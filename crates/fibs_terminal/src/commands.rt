@@ -529,7 +529,8 @@ impl<'a> Screen<'a> {
         let alloc = self.page.alloc;
         let numbers = self.page.settings.numbers;
         self.memory.here.looking.forget_trial();
-        let Some(decision) = read_move(alloc, client, numbers, rest, &mut self.memory.here.rule)? else {
+        let Some(decision) = read_move(alloc, client, numbers, rest, &mut self.memory.here.rule)?
+        else {
             return self.page.say(TRY_WHAT);
         };
         if let Some(why) = client.refusal(&decision) {
