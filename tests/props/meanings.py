@@ -80,7 +80,7 @@ REFUSALS = [
     (7, 'NotYours', r'not for you|nothing for you|does not decide'),
     (8, 'WrongKind', r"not that|cube|can't be done"),
     (9, 'IllegalPlay', r'rules|not legal'),
-    (10, 'NotOn', r'turn it on|turns off|off already'),
+    (10, 'NotOn', r'turn it on|turns off|off already|is off, or will be'),
     (11, 'AlreadyOrdered', r'^(?!.*\bno (standing )?order).*order.*(already|in force)'),
     (12, 'NotOrdered', r'\bno (standing )?order'),
 ]
@@ -134,7 +134,7 @@ ENUMS = [
     ('fibs_position/src/position_fault.rt', 'PositionFault', POSITIONS),
     ('fibs_fields/src/fault.rt', 'Fault', FIELDS),
     ('fibs_messages/src/directory/fault.rt', 'DirectoryFault', DIRECTORY),
-    ('fibs_model/src/machine/refusal.rt', 'WorldRefusal', EVENTS),
+    ('fibs_game/src/world_refusal.rt', 'WorldRefusal', EVENTS),
 ]
 
 # The statuses of the library for C: a family's hundred, and what its names begin with.
