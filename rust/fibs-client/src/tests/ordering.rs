@@ -1,22 +1,21 @@
 //! The standing order that the user's own settings ask for: when it is due, and where it is put in what is typed.
 
 use super::connect::Door;
-use crate::fibs::player::ordering::{OrderedInput, OrderedServer};
+use crate::fibs::player::ordering::{Dues, OrderedInput, OrderedServer};
 use crate::fibs_engine::dial::Dial;
 use crate::fibs_test_tools::pipe::{After, Pipe};
-use crate::rattle::cell::Cell;
 use crate::rattle::io::Read;
 
 /// What is read of what is typed, in pieces of three bytes, if the order is due from the piece with this number on.
 fn read_with_order(typed: &[u8], due: usize) -> String {
-    let is_due = Cell::new(false);
+    let dues = Dues::new();
     let mut pipe = Pipe::new(typed, 3, After::End, 0);
-    let mut input = OrderedInput::new(&mut pipe, &is_due);
+    let mut input = OrderedInput::new(&mut pipe, &dues);
     let mut text = Vec::new();
     let mut room = [0; 64];
     for number in 0.. {
         if number == due {
-            is_due.set(true);
+            dues.order.set(true);
         }
         match input.read(&mut room).expect("it is read") {
             0 => break,
@@ -40,9 +39,9 @@ fn an_order_comes_between_two_lines() {
 #[test]
 fn an_order_is_due_on_a_connection() {
     for (is_asked, connections) in [(true, 1), (true, 0), (false, 1), (false, 0)] {
-        let is_due = Cell::new(false);
+        let dues = Dues::new();
         let mut door = Door { input: b"", room: 64, connections };
-        let made = OrderedServer::new(&mut door, is_asked, &is_due).dial().is_ok();
-        assert_eq!((made, is_due.get()), (connections == 1, is_asked && connections == 1));
+        let made = OrderedServer::new(&mut door, is_asked, &dues).dial().is_ok();
+        assert_eq!((made, dues.order.get()), (connections == 1, is_asked && connections == 1));
     }
 }

@@ -139,7 +139,8 @@ fn a_board_looks_the_same_whichever_way_the_server_counts() {
         let other = counted_otherwise(line);
         for settings in [own_settings(), Settings { words: true, ..own_settings() }] {
             let shows = |line: &[u8]| {
-                let steps = [Cue::Hears(WELCOME), Cue::Hears(SETTINGS), Cue::Hears(line), Cue::Rests, Cue::Types(b"words")];
+                let steps =
+                    [Cue::Hears(WELCOME), Cue::Hears(SETTINGS), Cue::Hears(line), Cue::Rests, Cue::Types(b"words")];
                 shown(settings, &[], &steps)
             };
             let text = shows(line);
@@ -156,7 +157,8 @@ fn a_board_looks_the_same_whichever_way_the_server_counts() {
 fn a_board_that_is_watched_has_the_numbers_of_the_player_below() {
     let watched: Vec<u8> = [&b"board:eve"[..], &TO_ROLL[9..]].concat();
     let other = counted_otherwise(&watched);
-    let shows = |line: &[u8]| shown(own_settings(), &[], &[Cue::Hears(WELCOME), Cue::Hears(SETTINGS), Cue::Hears(line)]);
+    let shows =
+        |line: &[u8]| shown(own_settings(), &[], &[Cue::Hears(WELCOME), Cue::Hears(SETTINGS), Cue::Hears(line)]);
     assert_eq!(shows(&watched), shows(&other));
     let start = [Cue::Hears(WELCOME), Cue::Hears(SETTINGS), Cue::Hears(&other)];
     assert_ends(own_settings(), &start, &[Cue::Hears(b"bob moves 12-15 .\r\n")], "bob moves 13-10 .\n");
