@@ -20,7 +20,7 @@ pub record Game : Type 1 where
   -- The game: its boards as a user sees them, and his decisions.
   pub Board : Type 0
   pub Decision : Type 0
-  pub like : Board → Board → Bool  -- both are of the same game: nothing that was decided lies between them
+  pub like : Board → Board → Bool  -- both are of the same game: they differ in nothing that a decision changes
   pub good : Board → Bool  -- it has a position
   pub decides : Board → Bool  -- the user decides
   pub allows : Board → Decision → Option Refusal  -- why a decision is not legal, if it is not

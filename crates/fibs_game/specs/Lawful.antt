@@ -1,4 +1,4 @@
--- The laws of a game, as the headline needs them: what has to be shown of `fibs`.
+-- The laws of a game, as the headline, at most once and rest need them: what has to be shown of `fibs`.
 use Rattle.std.specs.Prelude.{◌≡◌, ℕ, ◌+◌, ◌≤◌, Bool, true, false, List, [], ◌∷◌, ◌++◌, Some, None, nat_eq, length}
 use Rattle.fibs_game.specs.Game.{Game, shows}
 use Rattle.fibs_game.specs.Machine.{on_wire}
@@ -8,7 +8,7 @@ abbrev pub NoReturn : List ℕ → Type 0
 NoReturn [] = Unit {0}
 NoReturn (b ∷ bytes) = (nat_eq b 13 ≡ false) × NoReturn bytes
 
--- a command that is no decision
+-- a command that is no decision, and holds no CR
 pub record IsQuiet (G : Game) (t : List ℕ) : Type 0 where
   pub text : NoReturn t
   pub quiet : (b : G.Board) → G.decision_in b t ≡ None
@@ -33,7 +33,7 @@ pub record Lawful (G : Game) : Type 0 where
   -- to be of one game is an equivalence, and boards that differ are of two
   pub likeness : IsLikeness G.like
   pub differ : (a b : G.Board) → G.Differ a b → G.like a b ≡ false
-  -- the tests say what they mean
+  -- what a test finds, the relation has
   pub good_means : (b : G.Board) → G.good b ≡ true → G.Good b
   pub allowed_means : (b : G.Board) (d : G.Decision) → G.good b ≡ true → G.allows b d ≡ None → G.Good b × G.Legal b d
   -- an allowed decision is the user's, and it has an effect, which is seen

@@ -8,7 +8,7 @@ use Rattle.fibs_game.specs.declared.world_refusal.WorldRefusal.TheVariants.{BadB
 abbrev pub own_refusal : (G : Game) → G.Board → G.Board → Option WorldRefusal
 own_refusal G now b = if not (G.good b) then Some BadBoard else (if G.decides now then Some UserDecides else None)
 
--- a server: a good board, and the connection that is logged in, or 0
+-- a server: its board, and the connection that is logged in, or 0
 pub record ServerValue (G : Game) : Type 0 where
   pub board : G.Board
   pub logged_in : ℕ

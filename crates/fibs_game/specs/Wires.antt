@@ -1,7 +1,8 @@
 -- The wires of a connection, and the lines that a server takes from one (the project's own model).
 use Rattle.std.specs.Prelude.{ℕ, ◌&&◌, List, [], ◌∷◌, ◌++◌, take, drop, Option, Some, None, nat_eq, if◌then◌else◌}
 
--- all bytes put on the wires of a connection, each way as two lists: those that were taken, and those on their way
+-- the bytes on the wires of a connection, each way as two lists: those that were taken, and those on their way. Bytes
+-- that a loss drops are in neither
 pub record Link : Type 0 where
   -- to the client
   pub heard : List ℕ

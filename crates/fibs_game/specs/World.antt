@@ -1,4 +1,5 @@
--- The world as a machine over events: a server, a client, the wires to its connections, and the log of what happened.
+-- The world as a machine over events: a server, the wires to its connections, and the log of what happened. It holds no
+-- client: `talk_of` reads the client of the newest connection.
 use Rattle.std.specs.Prelude.{ℕ, Bool, not, ◌&&◌, List, [], ◌∷◌, ◌++◌, Option, Some, None, if◌then◌else◌, nat_eq, take}
 use Rattle.fibs_game.specs.Game.{Game}
 use Rattle.fibs_game.specs.Log.{Entry}

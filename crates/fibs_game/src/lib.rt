@@ -1,5 +1,6 @@
 //! A client and a server of any game, in one world, as machines: definitions, what holds of them, and why a client
-//! refuses and an event is refused. No rule and no spelling of backgammon is here; only names of refusals come from it.
+//! refuses and an event is refused. No rule of backgammon is here, and of its spelling the line end alone; names, as of
+//! refusals and flags, and the two dice come from it.
 #![tactic(auto)]
 
 pub mod examples;

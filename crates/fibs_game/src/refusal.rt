@@ -13,9 +13,10 @@ pub enum Refusal {
     AlreadyOpen,
     /// No connection is open.
     Offline,
-    /// The server has not sent message 1 or not message 2 on this connection.
+    /// The server has not welcomed the user on this connection (message 1 of FIBS), or has not said what it plays by
+    /// itself (message 2).
     NotReady,
-    /// The latest message 2 says that the server moves or bears off by itself.
+    /// The server said last that it plays by itself (moves or bears off, in FIBS).
     ServerPlays,
     /// No board on which the user plays was shown on this connection.
     NoBoard,
@@ -23,7 +24,7 @@ pub enum Refusal {
     Waiting,
     /// The player does not decide on the board shown.
     NotYours,
-    /// The decision is not one of the board's phase, or the cube forbids it.
+    /// The decision is not one for which the board shown calls (in backgammon, or the cube forbids it).
     WrongKind,
     /// The move is not legal.
     IllegalPlay,

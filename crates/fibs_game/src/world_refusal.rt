@@ -26,7 +26,7 @@ pub enum WorldRefusal {
     BoardAsText,
     /// The board is not good.
     BadBoard,
-    /// The dice are not both 1 to 6.
+    /// The dice are not both numbers of a die (1 to 6, in backgammon).
     BadDice,
 }
 

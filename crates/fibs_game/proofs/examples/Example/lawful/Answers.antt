@@ -1,3 +1,4 @@
+use Rattle.std.proofs.Common.{refl}
 use Rattle.fibs_game.specs.Counter.{counter}
 use Rattle.fibs_game.proofs.Counting.{lawful}
 use Rattle.fibs_game.proofs.Headline.{headline, stale, joint_statement, agrees, only_login, can_rest, way}
@@ -6,6 +7,7 @@ use Rattle.fibs_game.proofs.examples.Example.lawful.Goals as goal
 
 pub returns : goal.returns
 returns c = record {
+  which = refl;
   lawful = lawful;
   headline = headline counter lawful;
   stale = stale counter lawful;
