@@ -19,3 +19,4 @@ pub mod rest
 pub mod Headline
 pub mod Counting
 pub mod Sharing
+pub mod Before
