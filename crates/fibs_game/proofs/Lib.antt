@@ -19,4 +19,3 @@ pub mod rest
 pub mod Headline
 pub mod Counting
 pub mod Sharing
-pub mod Before
