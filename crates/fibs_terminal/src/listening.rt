@@ -156,7 +156,7 @@ impl<'a> Screen<'a> {
         let account = &mut memory.program.account;
         account.note_text(alloc, said, told, opponent, board)?;
         account.hear_list(alloc, said, &mut memory.here.company.lists)?;
-        if let Some(Told::Saved | Told::MatchOver) = told {
+        if let Some(Told::Saved | Told::MatchOver | Told::NotPlaying) = told {
             memory.here.table.clear(alloc);
         }
         Ok(())

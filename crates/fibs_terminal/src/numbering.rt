@@ -2,6 +2,8 @@
 
 use crate::screen::Screen;
 use fibs_advice::moved::{append_moved, append_sent, names_steps, read_moved};
+use fibs_advice::situation::is_same;
+use fibs_fields::split::split;
 use fibs_fields::trailing_spaces::without_spaces;
 use fibs_position::{Direction, Numbers};
 use fibs_wording::environment::pieces::append_all;
@@ -10,13 +12,31 @@ use std::alloc::AllocError;
 /// What is said behind places whose numbers may not be those that the user reads.
 const THE_SERVERS: &[u8] = b" (the server's numbers)";
 
+/// Who moves, if a text of the server begins as one that tells a move.
+fn mover_of(said: &[u8]) -> Option<&[u8]> {
+    match split(said, b' ') {
+        (name, Some(rest)) if rest.starts_with(b"moves ") => Some(name),
+        _ => None,
+    }
+}
+
 impl<'a> Screen<'a> {
-    /// Which way the user goes by the server's numbers, or the player whom he watches, if a board shows it.
-    fn shown_direction(&self) -> Option<Direction> {
-        if let Some(watched) = self.memory.here.watching.board() {
-            return Some(Direction::of(watched.board()));
+    /// Which way the user goes by the server's numbers, or the player whom he watches, if a board shows it of the game
+    /// of which a text speaks.
+    fn shown_direction(&self, said: &[u8]) -> Option<Direction> {
+        let here = &self.memory.here;
+        let mover = mover_of(said);
+        if let Some(watched) = here.watching.board() {
+            return match mover {
+                Some(name) if !here.watching.is_of(name) => None,
+                _ => Some(Direction::of(watched.board())),
+            };
         }
-        self.memory.here.table.boards.direction()
+        let opponent = here.situation.opponent.name.as_slice();
+        match mover {
+            Some(name) if !is_same(name, opponent) => None,
+            _ => Some(Direction::of(here.table.boards.last_with(opponent)?)),
+        }
     }
 
     /// Says between these words a command that was sent: of a move also its steps in the numbers that the user reads,
@@ -46,7 +66,7 @@ impl<'a> Screen<'a> {
     /// places it says whose numbers they have, if those may be others.
     pub(crate) fn show_text(&mut self, said: &[u8]) -> Result<(), AllocError> {
         let numbers = self.page.settings.numbers;
-        let shown = self.shown_direction();
+        let shown = self.shown_direction(said);
         if numbers == Numbers::TheServers || shown == Some(Direction::Down) {
             return self.page.show_row(said);
         }

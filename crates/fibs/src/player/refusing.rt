@@ -6,7 +6,7 @@ use std::cell::Cell;
 use std::io;
 use std::io::{Read, Write};
 
-/// A stream: if the server asks for the login once more before it has greeted the user, that is noted.
+/// A stream: whether the server asks for the login once more before it has greeted the user is noted.
 #[derive(Drop)]
 pub struct Refusing<'a, S: Link + Drop> {
     stream: S,
@@ -45,9 +45,7 @@ impl<S: Link + Drop> Link for Refusing<'_, S> {
     fn receive(&mut self, buf: &mut [u8]) -> io::Result<usize> {
         let count = self.stream.receive(buf)?;
         self.questions.hear(&buf[..count]);
-        if self.questions.is_again() {
-            self.is_refused.set(true);
-        }
+        self.is_refused.set(self.questions.is_again());
         Ok(count)
     }
 

@@ -163,3 +163,17 @@ fn a_board_that_is_watched_has_the_numbers_of_the_player_below() {
     let start = [Cue::Hears(WELCOME), Cue::Hears(SETTINGS), Cue::Hears(&other)];
     assert_ends(own_settings(), &start, &[Cue::Hears(b"bob moves 12-15 .\r\n")], "bob moves 13-10 .\n");
 }
+
+/// What is known of the user's own match says nothing of a game of others, of which no board has come.
+#[test]
+fn a_move_of_others_is_not_turned_by_an_own_board() {
+    let own = [Cue::Hears(WELCOME), Cue::Hears(SETTINGS), Cue::Hears(UP)];
+    let turned = Cue::Hears(b"bob moves 12-15 .\r\n");
+    assert_ends(own_settings(), &own, &[turned], "bob moves 13-10 .\n");
+    let as_it_came = "eve moves 8-5 6-5 . (the server's numbers)\n";
+    assert_ends(own_settings(), &own, &[Cue::Hears(b"eve moves 8-5 6-5 .\r\n")], as_it_came);
+    let over = [own[0], own[1], own[2], Cue::Hears(b"You win the 5 point match 5-0 .\r\n")];
+    assert_ends(own_settings(), &over, &[Cue::Hears(b"eve moves 8-5 6-5 .\r\n")], as_it_came);
+    let bobs = "bob moves 8-5 6-5 . (the server's numbers)\n";
+    assert_ends(own_settings(), &over, &[Cue::Hears(b"bob moves 8-5 6-5 .\r\n")], bobs);
+}

@@ -18,9 +18,10 @@ fn titles(steps: &[Cue<'_>]) -> Vec<String> {
 }
 
 /// What ends a game, or its connection.
-static ENDINGS: [&[Cue<'static>]; 3] = [
+static ENDINGS: [&[Cue<'static>]; 4] = [
     &[Cue::Hears(b"bob wins the 3 point match 3-0 .\r\n")],
     &[Cue::Hears(b"bob drops connection. The game was saved.\r\n")],
+    &[Cue::Hears(b"** You're not playing.\r\n")],
     &[Cue::Loses],
 ];
 
