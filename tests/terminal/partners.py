@@ -69,7 +69,8 @@ def what_is_no_invitation_is_shown_as_it_is(server):
     name = 'n' * 64
     server.send('%s wants to play a 99999999999 point match with you.' % name, "Type 'join %s' to accept." % name)
     ann.reads('invites you to 99999999999 points.')
-    same('how one joins', ann.advised('invited'), ['join ' + 'n' * 24])
+    ann.reads('You are invited:')
+    same('how one joins', ann.next_line(), 'join ' + name)
     for text in ('bob wants to play a 05 point match with you.', 'bob wants to play a -1 point match with you.',
                  'bob wants to play a 5 point match with you. Now', 'b:b wants to play a 5 point match with you.'):
         server.send(text)
@@ -108,7 +109,7 @@ def who_has_a_saved_match_is_said_to_be_here(server):
     same('carl', ann.reads('is here'), 'carl is here: your match (10-7) is saved: invite carl.')
     server.send('7 %s logs in.' % ('n' * 64))
     same('a long name', [ann.reads('is here'), ann.next_line()],
-         ['n' * 24 + ' is here: your match (1-2 of 99) is saved:', 'invite ' + 'n' * 24 + '.'])
+         ['n' * 24 + ' is here: your match (1-2 of 99) is saved:', 'invite ' + 'n' * 64 + '.'])
     rows = rows_after(ann, 'players', 'players.')
     same('stars', rows, [
         HEAD, 'carl *                 1500.00       7     0 m   ready', 'eve                    1400.00       1     0 m   ready',

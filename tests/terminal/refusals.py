@@ -12,8 +12,9 @@ SCENES = []
 
 # -- a login ---------------------------------------------------------------------------------------------------------
 
-def with_a_wrong_password(*options):
-    """A decorator: ann has given a wrong password; the server asks for the login again, and says nothing else."""
+def with_a_wrong_password(*options, statuses=(3,)):
+    """A decorator: ann has given a wrong password; the server asks for the login again. If it says nothing else the
+    program ends by itself, with status 3; else she ends it."""
     def decorated(does):
         def scene():
             server = Served('--account', 'ann:' + PASSWORD[::-1], '--account', 'bob:secret', *options)
@@ -21,8 +22,10 @@ def with_a_wrong_password(*options):
                 ann = Person(server.port)
                 ann.reads('Welcome to a server')
                 does(ann, server)
-                ann.type('quit')
-                ann.ends(0)
+                if 0 in statuses:
+                    ann.type('quit')
+                ending = ann.report()
+                same('the ending', ending in [['ended', str(status)] for status in statuses], True)
                 ann.close()
             finally:
                 server.close()
@@ -50,7 +53,7 @@ def a_wrong_password_far_away(ann, _server):
     ann.advised('login', 'quit')
 
 
-@with_a_wrong_password('--tell-strangers')
+@with_a_wrong_password('--tell-strangers', statuses=(0, 3))
 def a_wrong_password_while_others_come_and_go(ann, server):
     """Each of them is told, behind the prompt that she is asked by."""
     end = time.monotonic() + 4
