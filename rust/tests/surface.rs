@@ -103,7 +103,7 @@ fn surface() -> String {
                 let is_method = is_shown && line.starts_with("    pub fn");
                 let is_part = in_type
                     && (line.starts_with("    pub ")
-                        || line.starts_with(|c: char| c == ' ')
+                        || line.starts_with(' ')
                             && line.strip_prefix("    ").is_some_and(|rest| rest.starts_with(char::is_uppercase)));
                 if is_method || is_part {
                     found.entry(owner.clone()).or_default().insert(format!("  {}", declared(&lines, at)));
