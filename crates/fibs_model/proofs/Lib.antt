@@ -3,3 +3,4 @@ pub mod Likeness
 pub mod needles
 pub mod Outcomes
 pub mod RealLaws
+pub mod Before
