@@ -3,4 +3,3 @@ pub mod Likeness
 pub mod needles
 pub mod Outcomes
 pub mod RealLaws
-pub mod Before
