@@ -303,6 +303,10 @@ impl Eraser<'_> {
         let clauses = std::mem::take(&mut self.clauses);
         let lead = self.out[..self.function].iter().rposition(|token| token.text.starts_with('\n'));
         let start = lead.map_or(0, |at| at + 1);
+        // what stands before it in the same line may be an attribute, or another function
+        let head = self.out[start..self.function].iter().rposition(|token| ["{", "}", ";"].contains(&&*token.text));
+        let head = head.map_or(start, |at| start + at + 1);
+        let start = (head..self.function).find(|at| self.out[*at].text == "pub").unwrap_or(head);
         let indent = lead.map_or("", |at| self.out[at].text.trim_matches('\n')).to_string();
         let in_trait = self.at < self.in_trait.1;
         let is_public = self.out[start].text == "pub" && self.out[start + 1].text != "(";

@@ -14,8 +14,8 @@ pub const CRATES: &[(&str, &[&str])] = &[
     (
         "",
         &[
-            "fibs_lines", "fibs_fields", "fibs_messages", "fibs_rules", "fibs_position", "fibs_commands", "fibs_game",
-            "fibs_session", "fibs_engine", "fibs_show",
+            "fibs_lines", "fibs_fields", "fibs_messages", "fibs_rules", "fibs_position", "fibs_picture",
+            "fibs_commands", "fibs_events", "fibs_game", "fibs_session", "fibs_engine", "fibs_show",
         ],
     ),
     ("MODEL", &["fibs_model", "fibs_replay"]),
@@ -67,6 +67,10 @@ const KEYS: &[(&str, &str, bool)] = &[
     ("fibs_position/disallowed.rs", "enum Disallowed {", true),
     ("fibs_commands/plain.rs", "enum Plain<'a> {", true),
     ("fibs_commands/plain.rs", "enum PlainFault {", true),
+    ("fibs_events/event.rs", "enum Side {", false),
+    ("fibs_events/event.rs", "enum Length {", false),
+    ("fibs_events/event.rs", "enum Offer {", true),
+    ("fibs_events/event.rs", "enum Event<'a> {", true),
     ("fibs_game/refusal.rs", "enum Refusal {", true),
     ("fibs_session/histories/refusal.rs", "enum PlainRefusal {", true),
     ("fibs_session/taken.rs", "struct Outstanding {", true),

@@ -2,7 +2,7 @@
 
 use crate::HostRuntime;
 use crate::os::fd::{IntoRawFd, RawFd};
-use crate::os::unix::fs::OpenOptionsExt;
+use crate::os::unix::fs::{DirBuilderExt, OpenOptionsExt};
 use std::io;
 
 /// What the system says of a file.
@@ -14,6 +14,11 @@ impl Metadata {
     /// Whether it is one with bytes, and no directory, pipe or device.
     pub fn is_file(&self) -> bool {
         self.inner.is_file()
+    }
+
+    /// Whether it is a directory.
+    pub fn is_dir(&self) -> bool {
+        self.inner.is_dir()
     }
 }
 
@@ -63,6 +68,49 @@ impl io::Write for File {
     }
 }
 
+impl io::Seek for File {
+    fn seek(&mut self, to: io::SeekFrom) -> io::Result<u64> {
+        self.inner.seek(to)
+    }
+}
+
+/// How a directory is made.
+pub struct DirBuilder {
+    inner: std::fs::DirBuilder,
+}
+
+impl DirBuilder {
+    /// Without those that it is in, for everybody.
+    #[allow(clippy::new_without_default)]
+    pub fn new() -> DirBuilder {
+        DirBuilder { inner: std::fs::DirBuilder::new() }
+    }
+
+    /// Whether those that it is in are made too, and it may be there.
+    pub fn recursive(mut self, recursive: bool) -> DirBuilder {
+        self.inner.recursive(recursive);
+        self
+    }
+
+    /// Makes it.
+    pub fn create(&self, _rt: &HostRuntime, path: &str) -> io::Result<()> {
+        self.inner.create(path)
+    }
+}
+
+impl DirBuilderExt for DirBuilder {
+    #[cfg(unix)]
+    fn mode(mut self, mode: u32) -> DirBuilder {
+        std::os::unix::fs::DirBuilderExt::mode(&mut self.inner, mode);
+        self
+    }
+
+    #[cfg(not(unix))]
+    fn mode(self, _mode: u32) -> DirBuilder {
+        self
+    }
+}
+
 /// How a file is opened.
 pub struct OpenOptions {
     inner: std::fs::OpenOptions,
@@ -73,6 +121,12 @@ impl OpenOptions {
     #[allow(clippy::new_without_default)]
     pub fn new() -> OpenOptions {
         OpenOptions { inner: std::fs::OpenOptions::new() }
+    }
+
+    /// Whether it is read.
+    pub fn read(mut self, read: bool) -> OpenOptions {
+        self.inner.read(read);
+        self
     }
 
     /// Whether it is written to.

@@ -34,5 +34,11 @@ pub mod unix {
             /// Who may do what with the file, if it is made.
             fn mode(self, mode: u32) -> Self;
         }
+
+        /// How a directory is made.
+        pub trait DirBuilderExt {
+            /// Who may do what with the directory.
+            fn mode(self, mode: u32) -> Self;
+        }
     }
 }
