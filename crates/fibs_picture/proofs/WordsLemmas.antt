@@ -1,7 +1,11 @@
--- Why words determine their board, and how rows grow.
+-- Why words determine their board, how rows grow, and how they are broken.
 pub mod Growing
+pub mod Breaking
 pub mod Rows
 pub mod Places
-pub mod Tells
+pub mod Peeling
+pub mod Plain
 pub mod Named
+pub mod Tells
 pub mod Watched
+pub mod Joining

@@ -1,5 +1,7 @@
+pub mod Breaking
+pub mod Rows
+pub mod Tellings
 pub mod Titles
 pub mod Told
 pub mod Watched
-pub mod WatchedTold
 pub mod Words

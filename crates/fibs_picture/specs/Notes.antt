@@ -1,6 +1,6 @@
 -- The facts of a board in words: a row of the board has one beside it, or they stand below it (the project's own). A
 -- fact is a list of words, and no word has a space.
-use Rattle.std.specs.Prelude.{◌+◌, ◌-◌, ◌++◌, ◌==◌, ◌&&◌, ℕ, ℤ, pos, Bool, true, false, List, [], ◌∷◌, codes, decimal, take, length, min, nat_le, if◌then◌else◌}
+use Rattle.std.specs.Prelude.{◌+◌, ◌-◌, ◌++◌, ◌==◌, ◌&&◌, ℕ, ℤ, pos, Bool, true, false, List, [], ◌∷◌, codes, decimal, take, length, min, nat_lt, nat_le, if◌then◌else◌}
 use Rattle.std.specs.Fmt.{signed_decimal}
 use Rattle.std.specs.Ordering.{int_eq}
 use Rattle.std.specs.Str.{bytes_eq}
@@ -44,6 +44,16 @@ labelled below label fill value = if below then label ∷ value else [] ∷ [] �
 abbrev pub die_mark : Mark → ℕ → Mark
 die_mark mark die = if die == 0 then M.Plain else mark
 
+-- how far the player is behind or ahead
+abbrev pub race_count : ℕ → ℕ → List ℕ
+race_count own other =
+    if own == other then codes "(even" else 40 ∷ decimal (if nat_lt other own then own - other else other - own)
+
+-- which of the two
+abbrev pub race_word : ℕ → ℕ → List ℕ
+race_word own other =
+    if own == other then codes "race)" else (if nat_lt other own then codes "behind)" else codes "ahead)")
+
 -- a die as a word
 abbrev pub die_word : Mark → ℕ → List ℕ
 die_word mark die = marked (die_mark mark die) (48 + die)
@@ -66,7 +76,7 @@ whose name = name ++ codes "'s"
 -- who may double next, in so many columns: on a board that is watched by the letter and the name
 unfoldable pub doublers : Look → Bool → BoardFields → ℕ → Bool → Bool → List (List ℕ)
 doublers look watched b left true true =
-    if is_long look then codes "in" ∷ codes "the" ∷ codes "middle" ∷ [] else codes "free" ∷ []
+    if is_long look then codes "in" ∷ codes "the" ∷ codes "middle" ∷ [] else codes "centred" ∷ []
 doublers look watched b left true false =
     if watched then lettered look.own (whose (take (min (left - 4) 14) b.player)) else codes "yours" ∷ []
 doublers look watched b left false true =
@@ -107,7 +117,9 @@ note look watched b p mark (T.Off half.Lower) =
 note look watched b p mark (T.Pips half.Upper) =
     labelled (is_below look.columns) (codes "pips") ([] ∷ []) (decimal (other_pips p.standing.checkers) ∷ [])
 note look watched b p mark (T.Pips half.Lower) =
-    labelled (is_below look.columns) (codes "pips") ([] ∷ []) (decimal (own_pips p.standing.checkers) ∷ [])
+    let own = own_pips p.standing.checkers in let other = other_pips p.standing.checkers in
+    labelled (is_below look.columns) (codes "pips") ([] ∷ [])
+    (decimal own ∷ race_count own other ∷ race_word own other ∷ [])
 note look watched b p mark (T.Dice half.Upper) =
     labelled (is_below look.columns) (codes "dice") ([] ∷ [])
     (two_dice M.Plain (natural (field_of b 36)) (natural (field_of b 37)))

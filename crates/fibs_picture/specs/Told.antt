@@ -5,6 +5,8 @@ use Rattle.fibs_fields.specs.Board.{BoardFields, field_of}
 use Rattle.fibs_position.specs.DirectionOf.{direction_of}
 use Rattle.fibs_position.specs.OwnView.{own_view, turn, colour}
 use Rattle.fibs_position.specs.Phases.{phase_of}
+use Rattle.fibs_position.specs.declared.numbers.Numbers.{Numbers}
+use Rattle.fibs_position.specs.declared.numbers.Numbers.TheVariants.{TheServers}
 
 -- one of the two players, or neither
 pub data Whose : Type 0 where
@@ -18,10 +20,11 @@ whose_turn b =
     if int_eq (turn b) (pos 0) then nobodys
     else (if int_eq (turn b) (colour b) then the_players else the_opponents)
 
--- two boards are the same in words
-pub record SameToTheEye (a b : BoardFields) : Type 0 where
+-- two boards are the same in words with these numbers
+pub record SameToTheEye (n : Numbers) (a b : BoardFields) : Type 0 where
   pub arrangement : own_view a ≡ own_view b
-  pub direction : direction_of a ≡ direction_of b
+  -- the player's own numbers are the same on each board
+  pub direction : n ≡ TheServers → direction_of a ≡ direction_of b
   pub turn : whose_turn a ≡ whose_turn b
   -- what the player is to do
   pub phase : phase_of a ≡ phase_of b

@@ -6,7 +6,7 @@ ghost use Rattle.fibs_fields.specs.Board.{field_of};
 ghost use Rattle.fibs_fields.specs.StoredBoard.{fields_of};
 ghost use Rattle.fibs_position.specs.OwnView.{turn, colour};
 ghost use Rattle.fibs_position.specs.PositionValue.{position_value};
-ghost use Rattle.fibs_picture.specs.Notes.{room, is_long, spaced, lettered, labelled, die_mark, die_word, two_dice, match_words, whose, doublers, others_turn, turn_words, note};
+ghost use Rattle.fibs_picture.specs.Notes.{room, is_long, spaced, lettered, labelled, die_mark, die_word, two_dice, race_count, race_word, match_words, whose, doublers, others_turn, turn_words, note};
 ghost use Rattle.fibs_picture.specs.Picture.{is_one};
 
 use crate::cell::Half;
@@ -123,6 +123,32 @@ fn append_pips(below: bool, number: u32, text: &mut Vec<u8>) -> Result<(), Alloc
     }
 }
 
+/// Appends how far the player is behind or ahead.
+fn append_race(own: u32, other: u32, text: &mut Vec<u8>) -> Result<(), AllocError>
+    ensures { OnOk result (text.new.items ≡ text.old.items
+        ++ (32 ∷ (race_count own other ++ (32 ∷ race_word own other)))) }
+{
+    if own == other {
+        text.extend_from_slice(b" (even race)")
+    } else if own > other {
+        append_count(b" (", own - other, text)?;
+        text.extend_from_slice(b" behind)")
+    } else {
+        append_count(b" (", other - own, text)?;
+        text.extend_from_slice(b" ahead)")
+    }
+}
+
+/// Appends how far the player's checkers have to go, and how far he is behind or ahead.
+#[tactic(auto, using(crate::proofs::PictureLemmas::Spaced::race_spaced))]
+fn append_own_pips(below: bool, own: u32, other: u32, text: &mut Vec<u8>) -> Result<(), AllocError>
+    ensures { OnOk result (text.new.items ≡ text.old.items ++ spaced (labelled below (codes "pips") ([] ∷ [])
+        (decimal own ∷ race_count own other ∷ race_word own other ∷ []))) }
+{
+    append_pips(below, own, text)?;
+    append_race(own, other, text)
+}
+
 /// The mark of a die: none if it is not shown.
 fn die_mark(die: u8, mark: Mark) -> Mark
     ensures { result ≡ die_mark mark die }
@@ -222,7 +248,7 @@ fn append_doublers(
             if is_long(look) {
                 text.extend_from_slice(b"in the middle")
             } else {
-                text.extend_from_slice(b"free")
+                text.extend_from_slice(b"centred")
             }
         }
         (true, false) => {
@@ -421,7 +447,9 @@ pub fn append_note(
         Note::Off(Half::Upper) => append_off(below, board.field(OTHER_OFF), text),
         Note::Off(Half::Lower) => append_off(below, board.field(OWN_OFF), text),
         Note::Pips(Half::Upper) => append_pips(below, other_pips(position), text),
-        Note::Pips(Half::Lower) => append_pips(below, own_pips(position), text),
+        Note::Pips(Half::Lower) => {
+            append_own_pips(below, own_pips(position), other_pips(position), text)
+        }
         Note::Dice(Half::Upper) => append_dice(
             below,
             board.die(OTHER_FIRST_DIE),

@@ -137,6 +137,13 @@ label-length : (below : Bool) (label : List ℕ) (fill : List (List ℕ)) (x y :
 label-length true label fill x y = refl
 label-length false label fill x y = omega (arith, length-append fill (x ∷ []), length-append fill (y ∷ []))
 
+-- three words behind a label
+race-length : (below : Bool) (label : List ℕ) (fill : List (List ℕ)) (x y z x' y' z' : List ℕ)
+    → length (labelled below label fill (x ∷ y ∷ z ∷ [])) ≡ length (labelled below label fill (x' ∷ y' ∷ z' ∷ []))
+race-length true label fill x y z x' y' z' = refl
+race-length false label fill x y z x' y' z' =
+    omega (arith, length-append fill (x ∷ y ∷ z ∷ []), length-append fill (x' ∷ y' ∷ z' ∷ []))
+
 -- a name, a score, what is off, pips
 name-length : (look : Look) (watched : Bool) (a b : BoardFields) (h : Half)
     → length (note look watched a (position_of a) M.Plain (T.Name h))
@@ -167,7 +174,7 @@ pips-length : (look : Look) (watched : Bool) (a b : BoardFields) (h : Half)
     ≡ length (note look watched b (position_of b) M.Plain (T.Pips h))
 unfolding note
 pips-length look watched a b half.Upper = label-length (is_below look.columns) (codes "pips") ([] ∷ []) _ _
-pips-length look watched a b half.Lower = label-length (is_below look.columns) (codes "pips") ([] ∷ []) _ _
+pips-length look watched a b half.Lower = race-length (is_below look.columns) (codes "pips") ([] ∷ []) _ _ _ _ _ _
 
 -- ---- the length of the match
 
@@ -219,9 +226,9 @@ owners-count : (look : Look) (watched : Bool) (b : BoardFields) (left : ℕ) (ow
     ≡ length (doublers look watched b left own other)
 unfolding doublers
 owners-count look true b left true true = count-cond (owners_count true) (is_long look)
-    (codes "in" ∷ codes "the" ∷ codes "middle" ∷ []) (codes "free" ∷ []) refl refl
+    (codes "in" ∷ codes "the" ∷ codes "middle" ∷ []) (codes "centred" ∷ []) refl refl
 owners-count look false b left true true = count-cond (owners_count false) (is_long look)
-    (codes "in" ∷ codes "the" ∷ codes "middle" ∷ []) (codes "free" ∷ []) refl refl
+    (codes "in" ∷ codes "the" ∷ codes "middle" ∷ []) (codes "centred" ∷ []) refl refl
 owners-count look true b left true false = refl
 owners-count look false b left true false = refl
 owners-count look true b left false true = refl

@@ -1,5 +1,5 @@
 -- What a board's fields may be, and what follows for how far its checkers have to go.
-use Rattle.std.proofs.Common.{◌≡◌, ◌⊎◌, ◌<◌, ◌≤◌, ◌+◌, ◌-◌, ◌*◌, ◌^◌, ◌&&◌, ◌++◌, ℕ, zero, suc, true, List, [], ◌∷◌, refl, subst, arith, lit≤, map, sum}
+use Rattle.std.proofs.Common.{◌≡◌, ◌⊎◌, ◌<◌, ◌≤◌, ◌+◌, ◌-◌, ◌*◌, ◌^◌, ◌&&◌, ◌++◌, ℕ, zero, suc, true, List, [], ◌∷◌, refl, ap, subst, arith, lit≤, map, sum, take}
 use Rattle.std.specs.Prelude.{ℤ, pos, negsuc, ◌≤ℤ◌, int_le, slice_index}
 use Rattle.std.specs.Fmt.{signed_decimal}
 use Rattle.std.specs.List.{range_with_len}
@@ -8,7 +8,7 @@ use Rattle.std.proofs.lemmas.Fmt.{signed_decimal_injective}
 use Rattle.std.proofs.lemmas.Int.{ints}
 use Rattle.std.proofs.lemmas.List.FromFn.{map-range_with_len_more}
 use Rattle.std.proofs.lemmas.List.Sums.{sum_by-cons, sum_by_push}
-use Rattle.std.proofs.Math.Nat.{mul-le-mul_left}
+use Rattle.std.proofs.Math.Nat.{mul-le-mul_right}
 use lib.Signed.{mag}
 use Rattle.fibs_fields.specs.Board.{BoardFields, IsBoard, field_of, field_values, can_have}
 use Rattle.fibs_fields.specs.FieldRanges.{FieldRanges}
@@ -135,40 +135,73 @@ pub other-few : (b : BoardFields) → other_placed b ≤ 15 → (k : ℕ) → sl
 unfolding own_view
 other-few b h k = omega (arith, at-most-sum (own_view b).other k, fifteen-other (other_off b) (other_on_places b) h)
 
--- places that each add at most 375
-few-more : (f : ℕ → ℕ) (n : ℕ) → sum (map f (range_with_len 0 n)) ≤ 375 * n → f n ≤ 375
-    → sum (map f (range_with_len 0 (n + 1))) ≤ 375 * (n + 1)
-few-more f n before here =
-    rw (map-range_with_len_more f 0 n n (omega arith), sum_by_push (λ x. x) (map f (range_with_len 0 n)) (f n))
-    (omega (arith, before, here))
+-- nothing is taken of nothing
+take-none : (n : ℕ) → take {A = ℕ} n [] ≡ []
+take-none zero = refl
+take-none (suc n) = refl
 
--- a sum of numbers of at most 375 is at most 375 for each of them
-few-pips : (f : ℕ → ℕ) (n : ℕ) → ((k : ℕ) → k < n → f k ≤ 375) → sum (map f (range_with_len 0 n)) ≤ 375 * n
-few-pips f zero h = omega arith
-few-pips f (suc n) h =
+-- one more than the next number
+suc-more : (n : ℕ) → suc n + 1 ≡ suc (n + 1)
+suc-more n = omega arith
+
+-- the counts of some places and of one more
+take-sum : (n : ℕ) (xs : List ℕ) → sum (take (n + 1) xs) ≡ sum (take n xs) + slice_index xs n
+take-sum zero [] = refl
+take-sum zero (x ∷ xs) = omega (arith, sum_by-cons (λ m. m) x [])
+take-sum (suc n) [] = ap sum (take-none (suc n + 1))
+take-sum (suc n) (x ∷ xs) =
+    let here : sum (take (suc n + 1) (x ∷ xs)) ≡ sum (x ∷ take (n + 1) xs) =
+    ap (λ m. sum (take m (x ∷ xs))) (suc-more n) in
+    omega (arith, here, take-sum n xs, sum_by-cons (λ m. m) x (take (n + 1) xs), sum_by-cons (λ m. m) x (take n xs))
+
+-- some places have no more checkers than all
+take-least : (n : ℕ) (xs : List ℕ) → sum (take n xs) ≤ sum xs
+take-least zero xs = omega arith
+take-least (suc n) [] = omega arith
+take-least (suc n) (x ∷ xs) =
+    let rest = take-least n xs in
+    omega (arith, rest, sum_by-cons (λ m. m) x (take n xs), sum_by-cons (λ m. m) x xs)
+
+-- checkers that have at most 25 steps each have at most 25 times as many as they are
+few-steps : (f : ℕ → ℕ) (xs : List ℕ) (n : ℕ) → ((k : ℕ) → k < n → f k ≤ 25 * slice_index xs k)
+    → sum (map f (range_with_len 0 n)) ≤ 25 * sum (take n xs)
+few-steps f xs zero h = omega arith
+few-steps f xs (suc n) h =
+    let before = few-steps f xs n (λ k less. h k (omega (arith, less))) in
+    let here = h n (omega arith) in
     let next : n + 1 ≡ suc n = omega arith in
-    subst (λ m. sum (map f (range_with_len 0 m)) ≤ 375 * m) next
-    (few-more f n (few-pips f n (λ k less. h k (omega arith))) (h n (omega arith)))
+    subst (λ m. sum (map f (range_with_len 0 m)) ≤ 25 * sum (take m xs)) next
+    (rw (
+      map-range_with_len_more f 0 n n (omega arith),
+      sum_by_push (λ x. x) (map f (range_with_len 0 n)) (f n),
+      take-sum n xs,
+    ) (omega (arith, before, here)))
 
--- 15 checkers have at most 375 steps to go from one place
-product-few : (m n : ℕ) → m ≤ 25 → n ≤ 15 → m * n ≤ 375
-product-few m n h k = let most : m * n ≤ m * 15 = mul-le-mul_left m k in omega (arith, most)
+-- a place is 25 at most
+at-most-25 : (k : ℕ) → k < 26 → k ≤ 25
+at-most-25 k h = omega (arith, h)
 
--- how far the player's checkers have to go
-pub own-pips-least : (b : BoardFields) → own_placed b ≤ 15 → own_pips (own_view b) ≤ 9750
-unfolding own_pips
+-- so is what is left of 25
+less-than-25 : (k : ℕ) → 25 - k ≤ 25
+less-than-25 k = omega arith
+
+-- how far the player's checkers have to go: fifteen have at most 25 steps each
+pub own-pips-least : (b : BoardFields) → own_placed b ≤ 15 → own_pips (own_view b) ≤ 375
+unfolding own_pips own_view
 own-pips-least b h =
-    let few = few-pips (own_pips_on (own_view b)) 26
-    (λ k less. product-few k (slice_index (own_view b).own k) (omega arith) (own-few b h k)) in
-    omega (arith, few)
+    let xs = (own_view b).own in
+    let few = few-steps (own_pips_on (own_view b)) xs 26
+    (λ k less. mul-le-mul_right (slice_index xs k) (at-most-25 k less)) in
+    omega (arith, few, take-least 26 xs, fifteen (own_off b) (own_on_places b) h)
 
 -- and how far the opponent's have to go
-pub other-pips-least : (b : BoardFields) → other_placed b ≤ 15 → other_pips (own_view b) ≤ 9750
-unfolding other_pips
+pub other-pips-least : (b : BoardFields) → other_placed b ≤ 15 → other_pips (own_view b) ≤ 375
+unfolding other_pips own_view
 other-pips-least b h =
-    let few = few-pips (other_pips_on (own_view b)) 25
-    (λ k less. product-few (25 - k) (slice_index (own_view b).other k) (omega arith) (other-few b h k)) in
-    omega (arith, few)
+    let xs = (own_view b).other in
+    let few = few-steps (other_pips_on (own_view b)) xs 25
+    (λ k less. mul-le-mul_right (slice_index xs k) (less-than-25 k)) in
+    omega (arith, few, take-least 25 xs, fifteen-other (other_off b) (other_on_places b) h)
 
 -- both are numbers of 64 bits
 pub own-pips-few : (b : BoardFields) → own_placed b ≤ 15 → own_pips (own_view b) < 2 ^ 64

@@ -1,5 +1,5 @@
 -- The words of a picture are rows: each word is solid.
-use Rattle.std.proofs.Common.{◌≡◌, ◌<◌, ◌+◌, ◌-◌, ◌==◌, ◌&&◌, ◌++◌, ℕ, Bool, true, false, cond, codes, List, [], ◌∷◌, length, take, refl, arith, lit<, min}
+use Rattle.std.proofs.Common.{◌≡◌, ◌<◌, ◌+◌, ◌-◌, ◌^◌, ◌==◌, ◌&&◌, ◌++◌, ℕ, Bool, true, false, cond, codes, List, [], ◌∷◌, length, take, refl, arith, lit<, min, nat_lt}
 use Rattle.std.specs.Prelude.{ℤ, pos, negsuc, decimal}
 use Rattle.std.specs.Fmt.{signed_decimal}
 use Rattle.std.specs.Int.{is_in_range}
@@ -13,7 +13,7 @@ use Rattle.fibs_position.specs.OwnView.{own_view, turn, colour}
 use Rattle.fibs_position.specs.PositionValue.{position_of}
 use Rattle.fibs_picture.specs.Look.{IsLetter, HasLetters}
 use Rattle.fibs_picture.specs.Marks.{marked}
-use Rattle.fibs_picture.specs.Notes.{room, is_long, lettered, labelled, die_word, two_dice, match_words, whose, doublers, others_turn, turn_words, note}
+use Rattle.fibs_picture.specs.Notes.{room, is_long, lettered, labelled, die_word, two_dice, race_count, race_word, match_words, whose, doublers, others_turn, turn_words, note}
 use Rattle.fibs_picture.specs.Picture.{own_pips, other_pips, is_one}
 use Rattle.fibs_picture.specs.Strip.{is_below}
 use Rattle.fibs_picture.specs.Tells.{IsSeen}
@@ -59,6 +59,26 @@ pips-row : (below : Bool) (w : List ℕ) → solid w ≡ true → is_row (labell
 pips-row true w h = h
 pips-row false w h = h
 
+-- a number in brackets, or a word, has no space
+count-solid : (even behind : Bool) (m n : ℕ) → m < 2 ^ 64 → n < 2 ^ 64
+    → solid (cond even (codes "(even") (40 ∷ decimal (cond behind m n))) ≡ true
+count-solid true behind m n h k = refl
+count-solid false true m n h k = decimal-solid m h
+count-solid false false m n h k = decimal-solid n k
+
+-- nor has the word behind it
+word-solid : (even behind : Bool) → solid (cond even (codes "race)") (cond behind (codes "behind)") (codes "ahead)")))
+    ≡ true
+word-solid true behind = refl
+word-solid false true = refl
+word-solid false false = refl
+
+-- before three words
+race-row : (below : Bool) (w x y : List ℕ) → solid w ≡ true → solid x ≡ true → solid y ≡ true
+    → is_row (labelled below (codes "pips") ([] ∷ []) (w ∷ x ∷ y ∷ [])) ≡ true
+race-row true w x y h k l = rw (h, k, l) refl
+race-row false w x y h k l = rw (h, k, l) refl
+
 -- a die without a mark
 plain-die : (none : Bool) (die : ℕ) → marked (cond none M.Plain M.Plain) (48 + die) ≡ (48 + die) ∷ []
 unfolding marked
@@ -98,7 +118,7 @@ pub doublers-row : (look : Look) → HasLetters look → (watched : Bool) (b : B
     → solid b.opponent ≡ true → (left : ℕ) (own other : Bool) → is_row (doublers look watched b left own other) ≡ true
 unfolding doublers
 doublers-row look h watched b p o left true true =
-    row-cond (is_long look) (codes "in" ∷ codes "the" ∷ codes "middle" ∷ []) (codes "free" ∷ []) refl refl
+    row-cond (is_long look) (codes "in" ∷ codes "the" ∷ codes "middle" ∷ []) (codes "centred" ∷ []) refl refl
 doublers-row look h watched b p o left true false =
     let name = take (min (left - 4) 14) b.player in
     row-cond watched (lettered look.own (whose name)) (codes "yours" ∷ [])
@@ -169,8 +189,15 @@ note-row look h watched b s r (T.Off half.Lower) = off-row (is_below look.column
     (number-solid 15 (field_of b 46) (lit< tt) r.own_off_is)
 note-row look h watched b s r (T.Pips half.Upper) = pips-row (is_below look.columns) (decimal (other_pips (own_view b)))
     (decimal-solid (other_pips (own_view b)) (other-pips-few b s.other))
-note-row look h watched b s r (T.Pips half.Lower) = pips-row (is_below look.columns) (decimal (own_pips (own_view b)))
-    (decimal-solid (own_pips (own_view b)) (own-pips-few b s.own))
+note-row look h watched b s r (T.Pips half.Lower) =
+    let own = own_pips (own_view b) in
+    let other = other_pips (own_view b) in
+    let few = own-pips-few b s.own in
+    let others = other-pips-few b s.other in
+    race-row (is_below look.columns) (decimal own) (race_count own other) (race_word own other)
+    (decimal-solid own few)
+    (count-solid (own == other) (nat_lt other own) (own - other) (other - own) (omega (arith, few))
+    (omega (arith, others))) (word-solid (own == other) (nat_lt other own))
 note-row look h watched b s r (T.Dice half.Upper) =
     dice-of (is_below look.columns) (natural (field_of b 36)) (natural (field_of b 37))
     (natural-few (field_of b 36) r.die_3) (natural-few (field_of b 37) r.die_4)

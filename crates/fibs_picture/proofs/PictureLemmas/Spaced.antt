@@ -1,7 +1,7 @@
 -- How rows of words are written.
 use Rattle.std.proofs.Common.{◌≡◌, ◌+◌, ◌-◌, ◌==◌, ◌&&◌, ◌++◌, ℕ, Bool, true, false, cond, codes, List, [], ◌∷◌, refl, ◌∙◌, ap, append_assoc}
 use Rattle.fibs_fields.specs.Board.{BoardFields}
-use Rattle.fibs_picture.specs.Notes.{is_long, spaced, two_dice, die_word, doublers}
+use Rattle.fibs_picture.specs.Notes.{is_long, spaced, labelled, two_dice, die_word, doublers}
 use Rattle.fibs_picture.specs.declared.look.Look.{Look}
 use Rattle.fibs_picture.specs.declared.mark.Mark.{Mark}
 
@@ -25,6 +25,12 @@ pub dice_spaced : (w : List ℕ) (mark : Mark) (m n : ℕ)
     → spaced (w ∷ two_dice mark m n) ≡ w ++ (32 ∷ spaced (two_dice mark m n))
 dice_spaced w mark m n = before-row w (two_dice mark m n)
     (some-cond ((m == 0) && (n == 0)) ((45 ∷ []) ∷ []) (die_word mark m ∷ die_word mark n ∷ []) refl refl)
+
+-- a label and a number before two words
+pub race_spaced : (below : Bool) (w x y : List ℕ) → spaced (labelled below (codes "pips") ([] ∷ []) (w ∷ x ∷ y ∷ []))
+    ≡ spaced (labelled below (codes "pips") ([] ∷ []) (w ∷ [])) ++ (32 ∷ (x ++ (32 ∷ y)))
+race_spaced true w x y = refl
+race_spaced false w x y = refl
 
 -- there are words on who may double
 pub doublers-some : (look : Look) (watched : Bool) (b : BoardFields) (left : ℕ) (own other : Bool)

@@ -24,7 +24,7 @@ use Rattle.fibs_picture.specs.Cell.{label, floor, place_of, ink_at, byte_at, see
 use Rattle.fibs_picture.specs.Ink.{stack, byte_of, IsSmall}
 use Rattle.fibs_picture.specs.Look.{IsLetter, HasLetters}
 use Rattle.fibs_position.specs.NumbersOf.{counted}
-use Rattle.fibs_picture.specs.Notes.{is_long, spaced, room, lettered, labelled, two_dice, match_words, whose, doublers, others_turn, turn_words, note}
+use Rattle.fibs_picture.specs.Notes.{is_long, spaced, room, lettered, labelled, two_dice, race_count, race_word, match_words, whose, doublers, others_turn, turn_words, note}
 use Rattle.fibs_picture.specs.Picture.{own_pips, other_pips, is_one}
 use Rattle.fibs_picture.specs.Strip.{strip_at, is_below, is_left_out, board_width, IsWithin}
 use Rattle.fibs_picture.specs.Tells.{IsSeen}
@@ -349,6 +349,28 @@ pips-width : (under : Bool) (w : List ℕ) (n : ℕ) → length w ≤ 8 → 25 �
 pips-width true w n h k = omega (arith, h, k)
 pips-width false w n h k = omega (arith, h, k)
 
+-- a number in brackets, or a word
+count-width : (even behind : Bool) (m n : ℕ) → length (decimal m) ≤ 3 → length (decimal n) ≤ 3
+    → length (cond even (codes "(even") (40 ∷ decimal (cond behind m n))) ≤ 5
+count-width true behind m n h k = omega arith
+count-width false true m n h k = omega (arith, h)
+count-width false false m n h k = omega (arith, k)
+
+-- the word behind it
+word-width : (even behind : Bool) → length (cond even (codes "race)") (cond behind (codes "behind)") (codes "ahead)")))
+    ≤ 7
+word-width true behind = omega arith
+word-width false true = omega arith
+word-width false false = omega arith
+
+-- pips, and how far the player is behind or ahead
+race-width : (under : Bool) (w x y : List ℕ) (n : ℕ) → length w ≤ 3 → length x ≤ 5 → length y ≤ 7 → 25 ≤ n
+    → length (spaced (labelled under (codes "pips") ([] ∷ []) (w ∷ x ∷ y ∷ []))) ≤ n
+race-width true w x y n h k l m =
+    omega (arith, h, k, l, m, length-append w (32 ∷ (x ++ (32 ∷ y))), length-append x (32 ∷ y))
+race-width false w x y n h k l m =
+    omega (arith, h, k, l, m, length-append w (32 ∷ (x ++ (32 ∷ y))), length-append x (32 ∷ y))
+
 -- two dice
 two-width : (under none : Bool) (m k n : ℕ) → 25 ≤ n
     → length (spaced (labelled under (codes "dice") ([] ∷ [])
@@ -391,7 +413,7 @@ long-room look h = room-wide look.columns (is_below look.columns) refl (long-wid
 
 -- who may double
 middle-width : (long : Bool) (left : ℕ) → (long ≡ true → 18 ≤ left) → 11 ≤ left
-    → length (spaced (cond long (codes "in" ∷ codes "the" ∷ codes "middle" ∷ []) (codes "free" ∷ []))) ≤ left
+    → length (spaced (cond long (codes "in" ∷ codes "the" ∷ codes "middle" ∷ []) (codes "centred" ∷ []))) ≤ left
 middle-width true left h k = let wide = h refl in omega (arith, wide)
 middle-width false left h k = omega (arith, k)
 
@@ -517,10 +539,16 @@ note-width look watched b s r (T.Pips half.Upper) =
     (length-decimal-le 8 (other_pips (own_view b)) (lit< tt) (omega (arith, most)) (omega (arith, most)))
     (room-is look.columns).0
 note-width look watched b s r (T.Pips half.Lower) =
+    let own = own_pips (own_view b) in
+    let other = other_pips (own_view b) in
     let most = own-pips-least b s.own in
-    pips-width (is_below look.columns) (decimal (own_pips (own_view b))) (room look.columns)
-    (length-decimal-le 8 (own_pips (own_view b)) (lit< tt) (omega (arith, most)) (omega (arith, most)))
-    (room-is look.columns).0
+    let others = other-pips-least b s.other in
+    race-width (is_below look.columns) (decimal own) (race_count own other) (race_word own other) (room look.columns)
+    (length-decimal-le 3 own (lit< tt) (omega (arith, most)) (omega (arith, most)))
+    (count-width (own == other) (nat_lt other own) (own - other) (other - own)
+    (length-decimal-le 3 (own - other) (lit< tt) (omega (arith, most)) (omega (arith, most)))
+    (length-decimal-le 3 (other - own) (lit< tt) (omega (arith, others)) (omega (arith, others))))
+    (word-width (own == other) (nat_lt other own)) (room-is look.columns).0
 note-width look watched b s r (T.Dice half.Upper) =
     dice-width (is_below look.columns) (natural (field_of b 36)) (natural (field_of b 37)) (room look.columns)
     (room-is look.columns).0

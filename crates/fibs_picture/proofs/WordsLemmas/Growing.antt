@@ -9,9 +9,9 @@ use Rattle.std.proofs.lemmas.List.{length-append}
 use Rattle.std.proofs.lemmas.List.Concat.{flat_map-append}
 use Rattle.fibs_position.specs.declared.direction.Direction.{Direction}
 use Rattle.fibs_rules.specs.Checkers.{Checkers}
-use Rattle.fibs_picture.specs.InWords.Words.{stack, stacks, is_held, held, joined, next_name, numbers, place_name}
+use Rattle.fibs_picture.specs.InWords.Words.{stack, stacks, is_listed, listed, joined, next_name, numbers, place_name}
+use Rattle.fibs_picture.specs.declared.in_words.listed.Listed.{Listed}
 use Rattle.fibs_picture.specs.declared.in_words.side.Side.{Side}
-use Rattle.fibs_picture.specs.declared.in_words.side.Side.TheVariants as side
 
 -- some numbers and the next one
 range-more : (a n j : ℕ) → a + n ≡ j → range_with_len a (n + 1) ≡ range_with_len a n ++ j ∷ []
@@ -59,18 +59,19 @@ filter-push : (p : ℕ → Bool) (xs : List ℕ) (y : ℕ) → filter p (xs ++ y
 filter-push p [] y = refl
 filter-push p (x ∷ xs) y = rw (filter-push p xs y) (pushed (p x) (p y) x y (filter p xs))
 
--- a place that is held comes to those before, and no other one
-held-more : (c : Checkers) (n place : ℕ) → n + 1 ≡ place → is_held c place ≡ true
-    → held c (n + 1) ≡ held c n ++ place ∷ []
-unfolding held
-held-more c n place e h =
-    rw (range-more 1 n place (omega (arith, e)), filter-push (is_held c) (range_with_len 1 n) place, h) refl
+-- a place that is listed comes to those before, and no other one
+listed-more : (c : Checkers) (w : Listed) (n place : ℕ) → n + 1 ≡ place → is_listed c w place ≡ true
+    → listed c w (n + 1) ≡ listed c w n ++ place ∷ []
+unfolding listed
+listed-more c w n place e h =
+    rw (range-more 1 n place (omega (arith, e)), filter-push (is_listed c w) (range_with_len 1 n) place, h) refl
 
--- a place that is not held leaves those that are
-held-same : (c : Checkers) (n place : ℕ) → n + 1 ≡ place → is_held c place ≡ false → held c (n + 1) ≡ held c n
-unfolding held
-held-same c n place e h =
-    rw (range-more 1 n place (omega (arith, e)), filter-push (is_held c) (range_with_len 1 n) place, h)
+-- a place that is not listed leaves those that are
+listed-same : (c : Checkers) (w : Listed) (n place : ℕ) → n + 1 ≡ place → is_listed c w place ≡ false
+    → listed c w (n + 1) ≡ listed c w n
+unfolding listed
+listed-same c w n place e h =
+    rw (range-more 1 n place (omega (arith, e)), filter-push (is_listed c w) (range_with_len 1 n) place, h)
     (append-nil _)
 
 -- a number that counts something is not 0
@@ -78,68 +79,76 @@ is-some : (count n : ℕ) → count ≡ suc n → (count == 0) ≡ false
 is-some count n h = grind (arith, nat_tests)
 
 -- names of places, and one more
-joined-next : (d : Direction) (places : List ℕ) (place count : ℕ) → count ≡ length places
-    → joined d (places ++ place ∷ []) ≡ joined d places ++ next_name d count place
+joined-next : (d : Direction) (s : Side) (places : List ℕ) (place count : ℕ) → count ≡ length places
+    → joined d s (places ++ place ∷ []) ≡ joined d s places ++ next_name d s count place
 unfolding joined
-joined-next d [] place count h = rw h (append-nil _)
-joined-next d (p ∷ places) place count h =
-    let f : ℕ → List ℕ = λ y. codes ", " ++ place_name d side.Own y in
-    let last = place_name d side.Own place in
+joined-next d s [] place count h = rw h (append-nil _)
+joined-next d s (p ∷ places) place count h =
+    let f : ℕ → List ℕ = λ y. codes ", " ++ place_name d s y in
+    let last = place_name d s place in
     let more : flat_map f (places ++ place ∷ []) ≡ flat_map f places ++ (codes ", " ++ last) =
     flat_map-append f places (place ∷ []) ∙ ap (λ t. flat_map f places ++ t) (append-nil _) in
     rw (is-some count (length places) h)
-    (ap (λ t. place_name d side.Own p ++ t) more
-    ∙ sym (append_assoc (place_name d side.Own p) (flat_map f places) (codes ", " ++ last)))
+    (ap (λ t. place_name d s p ++ t) more
+    ∙ sym (append_assoc (place_name d s p) (flat_map f places) (codes ", " ++ last)))
 
 -- what is written of the places so far, and how many those are
-pub record HeldSo (c : Checkers) (d : Direction) (n count : ℕ) (a b : Option (List ℕ)) : Type 0 where
-  pub counted : count ≡ length (held c n)
+pub record ListedSo (c : Checkers) (w : Listed) (d : Direction) (s : Side) (n count : ℕ) (a b : Option (List ℕ)) :
+    Type 0 where
+  pub counted : count ≡ length (listed c w n)
   pub few : count ≤ n
-  pub written : Appends a b (joined d (held c n))
+  pub written : Appends a b (joined d s (listed c w n))
 
 -- at first no place is written
-pub held-none : (c : Checkers) (d : Direction) (a : Option (List ℕ)) → HeldSo c d 0 0 a a
-unfolding held joined
-held-none c d a = record { counted = refl; few = omega arith; written = Appends-nil a }
+pub listed-none : (c : Checkers) (w : Listed) (d : Direction) (s : Side) (a : Option (List ℕ))
+    → ListedSo c w d s 0 0 a a
+unfolding listed joined
+listed-none c w d s a = record { counted = refl; few = omega arith; written = Appends-nil a }
 
--- a place that is not held is passed
-pub held-passed : (c : Checkers) (d : Direction) (n count : ℕ) (a b : Option (List ℕ)) → is_held c (n + 1) ≡ false
-    → HeldSo c d n count a b → HeldSo c d (n + 1) count a b
-held-passed c d n count a b h so = let same = held-same c n (n + 1) refl h in record {
+-- a place that is not listed is passed
+pub listed-passed : (c : Checkers) (w : Listed) (d : Direction) (s : Side) (n count : ℕ) (a b : Option (List ℕ))
+    → is_listed c w (n + 1) ≡ false
+    → ListedSo c w d s n count a b → ListedSo c w d s (n + 1) count a b
+listed-passed c w d s n count a b h so = let same = listed-same c w n (n + 1) refl h in record {
   counted = so.counted ∙ ap length (sym same);
   few = omega (arith, so.few);
-  written = subst (λ places. Appends a b (joined d places)) (sym same) so.written;
+  written = subst (λ places. Appends a b (joined d s places)) (sym same) so.written;
 }
 
--- a place that is held is written after those before
-pub held-written : (c : Checkers) (d : Direction) (n count : ℕ) (a b e : Option (List ℕ)) → is_held c (n + 1) ≡ true
-    → HeldSo c d n count a b → Appends b e (next_name d count (n + 1)) → HeldSo c d (n + 1) (count + 1) a e
-held-written c d n count a b e h so here =
-    let more = held-more c n (n + 1) refl h in record {
-      counted = omega (arith, so.counted, ap length more, length-append (held c n) ((n + 1) ∷ []));
+-- a place that is listed is written after those before
+pub listed-written : (c : Checkers) (w : Listed) (d : Direction) (s : Side) (n count : ℕ) (a b e : Option (List ℕ))
+    → is_listed c w (n + 1) ≡ true
+    → ListedSo c w d s n count a b → Appends b e (next_name d s count (n + 1))
+    → ListedSo c w d s (n + 1) (count + 1) a e
+listed-written c w d s n count a b e h so here =
+    let more = listed-more c w n (n + 1) refl h in record {
+      counted = omega (arith, so.counted, ap length more, length-append (listed c w n) ((n + 1) ∷ []));
       few = omega (arith, so.few);
-      written = subst (Appends a e) (sym (ap (joined d) more ∙ joined-next d (held c n) (n + 1) count so.counted))
-          (Appends-trans a b e (joined d (held c n)) (next_name d count (n + 1)) so.written here);
+      written = subst (Appends a e) (sym (ap (joined d s) more ∙ joined-next d s (listed c w n) (n + 1) count
+          so.counted))
+          (Appends-trans a b e (joined d s (listed c w n)) (next_name d s count (n + 1)) so.written here);
     }
 
 -- if there are none, that is said in place of the numbers
-pub numbers-written : (d : Direction) (places : List ℕ) (count : ℕ) (a b : Option (List ℕ)) → count ≡ length places
-    → 0 < count → Appends a b (joined d places) → Appends a b (numbers d places)
+pub numbers-written : (d : Direction) (s : Side) (places : List ℕ) (count : ℕ) (a b : Option (List ℕ))
+    → count ≡ length places
+    → 0 < count → Appends a b (joined d s places) → Appends a b (numbers d s places)
 unfolding numbers joined
-numbers-written d [] count a b h some written = absurd (omega (arith, h, some))
-numbers-written d (p ∷ places) count a b h some written = written
+numbers-written d s [] count a b h some written = absurd (omega (arith, h, some))
+numbers-written d s (p ∷ places) count a b h some written = written
 
 -- if there are no places `none` is written
-numbers-none : (d : Direction) (places : List ℕ) (count : ℕ) (a b e : Option (List ℕ)) → count ≡ length places
-    → count ≡ 0 → Appends a b (joined d places) → Appends b e (codes "none") → Appends a e (numbers d places)
+numbers-none : (d : Direction) (s : Side) (places : List ℕ) (count : ℕ) (a b e : Option (List ℕ))
+    → count ≡ length places
+    → count ≡ 0 → Appends a b (joined d s places) → Appends b e (codes "none") → Appends a e (numbers d s places)
 unfolding numbers joined
-numbers-none d [] count a b e h none written here = Appends-trans a b e [] (codes "none") written here
-numbers-none d (p ∷ places) count a b e h none written here = absurd (omega (arith, h, none))
+numbers-none d s [] count a b e h none written here = Appends-trans a b e [] (codes "none") written here
+numbers-none d s (p ∷ places) count a b e h none written here = absurd (omega (arith, h, none))
 
 -- the same if memory sufficed
-pub none-written : {E : Type 0} (r : Result (Unit {0}) E) (d : Direction) (places : List ℕ) (count : ℕ)
+pub none-written : {E : Type 0} (r : Result (Unit {0}) E) (d : Direction) (s : Side) (places : List ℕ) (count : ℕ)
     (a b e : Option (List ℕ)) → count ≡ length places
-    → count ≡ 0 → Appends a b (joined d places) → OnOk r (Appends b e (codes "none"))
-    → OnOk r (Appends a e (numbers d places))
-none-written (Ok x) d places count a b e h none written here = numbers-none d places count a b e h none written here
-none-written (Err x) d places count a b e h none written here = tt
+    → count ≡ 0 → Appends a b (joined d s places) → OnOk r (Appends b e (codes "none"))
+    → OnOk r (Appends a e (numbers d s places))
+none-written (Ok x) d s places count a b e h none written here = numbers-none d s places count a b e h none written here
+none-written (Err x) d s places count a b e h none written here = tt

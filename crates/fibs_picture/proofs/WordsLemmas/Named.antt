@@ -309,7 +309,7 @@ after_comma false true p o = 32 ∷ (o ++ (codes "'s, not " ++ (p ++ codes "'s."
 after_comma false false p o = codes " no doubling."
 
 -- what is said of who may double begins with a comma
-owner-comma : (a b : Bool) (p o : List ℕ) → owner_said a b p o ≡ 44 ∷ after_comma a b p o
+pub owner-comma : (a b : Bool) (p o : List ℕ) → owner_said a b p o ≡ 44 ∷ after_comma a b p o
 unfolding owner_said
 owner-comma true true p o = refl
 owner-comma true false p o = refl

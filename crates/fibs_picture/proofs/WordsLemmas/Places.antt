@@ -23,7 +23,7 @@ digit-no-letter : (c n : ℕ) → 57 < c → n < 10 → not ((48 + n) == c) ≡ 
 digit-no-letter c n h k = grind (arith, nat_tests)
 
 -- a decimal has no letter
-decimal-no-letter : (c n : ℕ) → 57 < c → n < 2 ^ 64 → lacks c (decimal n) ≡ true
+pub decimal-no-letter : (c n : ℕ) → 57 < c → n < 2 ^ 64 → lacks c (decimal n) ≡ true
 decimal-no-letter c n high h =
     decimal_by_steps (λ n ds. lacks c ds ≡ true)
     (λ n k. rw (digit-no-letter c n high k) refl)
@@ -41,12 +41,12 @@ Few count = (k : ℕ) → count k < 2 ^ 64
 -- ---- names of places
 
 -- the number of a place has 64 bits
-line-small : (d : Direction) (place : ℕ) → place ≤ 25 → line_place d place < 2 ^ 64
+pub line-small : (d : Direction) (place : ℕ) → place ≤ 25 → line_place d place < 2 ^ 64
 line-small Down place h = omega (arith, h)
 line-small Up place h = omega arith
 
 -- a place is at most 25, whichever side counts it
-place-small : (s : Side) (steps : ℕ) → steps ≤ 25 → place_of s steps ≤ 25
+pub place-small : (s : Side) (steps : ℕ) → steps ≤ 25 → place_of s steps ≤ 25
 place-small side.Own steps h = omega arith
 place-small side.Other steps h = h
 

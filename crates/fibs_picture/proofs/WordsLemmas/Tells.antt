@@ -1,7 +1,7 @@
 -- Words determine their board: row by row, and in the rows of the sides place by place.
-use Rattle.std.proofs.Common.{◌≡◌, ◌≤◌, ◌+◌, ◌-◌, ◌++◌, ℕ, zero, suc, true, not, Bool, ◌==◌, ◌&&◌, List, [], ◌∷◌, length, codes, refl, sym, ◌∙◌, ap, subst, arith, append_assoc, take}
-use Rattle.std.specs.Prelude.{nat_lt, nat_le, slice_index, slice_index_or}
-use Rattle.std.specs.List.{flat_map, list_all}
+use Rattle.std.proofs.Common.{◌≡◌, ◌≤◌, ◌+◌, ◌-◌, ◌++◌, ℕ, zero, suc, true, false, not, Bool, ◌==◌, ◌&&◌, List, [], ◌∷◌, length, codes, refl, sym, ◌∙◌, ap, subst, arith, append_assoc, take}
+use Rattle.std.specs.Prelude.{Option, nat_lt, nat_le, slice_index}
+use Rattle.std.specs.List.{list_all}
 use Rattle.std.proofs.lemmas.Bool.{and_parts}
 use Rattle.std.proofs.lemmas.Bool.Decides.{nat_tests}
 use Rattle.std.proofs.lemmas.List.{ext_get_or}
@@ -11,21 +11,29 @@ use Rattle.fibs_fields.specs.FieldReading.{natural}
 use Rattle.fibs_fields.specs.Name.{is_name, is_name_byte}
 use Rattle.fibs_rules.specs.Checkers.{Checkers}
 use Rattle.fibs_position.specs.GoodBoard.{IsGood}
+use Rattle.fibs_position.specs.NumbersOf.{counted}
 use Rattle.fibs_position.specs.OwnView.{own_view, places, turn, colour}
 use Rattle.fibs_position.specs.Phases.{phase_in}
 use Rattle.fibs_position.specs.PositionValue.{position_of}
 use Rattle.fibs_position.specs.declared.direction.Direction.{Direction}
+use Rattle.fibs_position.specs.declared.direction.Direction.TheVariants.{Down, Up}
+use Rattle.fibs_position.specs.declared.numbers.Numbers.{Numbers}
+use Rattle.fibs_position.specs.declared.numbers.Numbers.TheVariants.{TheServers, TheOwn}
 use Rattle.fibs_picture.specs.Fits.{ended}
 use Rattle.fibs_picture.specs.Picture.{own_pips, other_pips}
 use Rattle.fibs_picture.specs.Told.{SameToTheEye}
 use Rattle.fibs_picture.proofs.PictureLemmas.Parts.{lacks}
 use Rattle.fibs_picture.proofs.PictureLemmas.Notes.{flag-tells, all-mono, natural-tells}
 use Rattle.fibs_picture.proofs.PictureLemmas.Ranges.{Ranges, ranges-of, own-few, other-few, own-pips-few, other-pips-few, pair-same, four-same}
+use Rattle.fibs_picture.specs.InWords.Rows.{row_of, told_rows, words}
 use Rattle.fibs_picture.specs.InWords.Told.{WordsTell}
-use Rattle.fibs_picture.specs.InWords.Words.{whose, turn_row, dice_row, score_row, cube_row, direction_row, count_on, side_row, held_row, game_rows, checkers_rows, told, words}
+use Rattle.fibs_picture.specs.InWords.Words.{whose, turn_row, dice_row, score_row, cube_row, direction_row, count_on, side_row, row}
+use Rattle.fibs_picture.specs.declared.in_words.fact.Fact.{Fact}
+use Rattle.fibs_picture.specs.declared.in_words.fact.Fact.TheVariants as F
 use Rattle.fibs_picture.specs.declared.in_words.side.Side.TheVariants as side
+use Rattle.fibs_picture.proofs.WordsLemmas.Peeling.{byte, differ-by, Distinct, ArePlain, after_sides, sides, SameRows, rows-known}
 use Rattle.fibs_picture.proofs.WordsLemmas.Places.{Few, side-tells}
-use Rattle.fibs_picture.proofs.WordsLemmas.Rows.{Plain, rows-tell, turn_row-lacks, turn_row-tells, dice_row-lacks, dice_row-tells, score_row-lacks, score_row-tells, cube_row-lacks, cube_row-tells, direction_row-lacks, direction_row-tells}
+use Rattle.fibs_picture.proofs.WordsLemmas.Rows.{turn_row-lacks, turn_row-tells, dice_row-lacks, dice_row-tells, score_row-lacks, score_row-tells, cube_row-lacks, cube_row-tells, direction_row-lacks, direction_row-tells}
 
 -- ---- names
 
@@ -48,81 +56,122 @@ name-lacks name h =
     let bytes = (and_parts size (list_all is_name_byte name) h).1 in
     take-all (λ x. not (x == 32)) 30 name (all-mono is_name_byte (λ x. not (x == 32)) no-space name bytes)
 
+-- ---- the numbers
+
+-- which way the player goes by these numbers
+abbrev pub way : Numbers → BoardFields → Direction
+way n b = counted n (position_of b).direction
+
+-- the two kinds of numbers are known from each other
+abbrev kind : Numbers → ℕ
+kind TheServers = 0
+kind TheOwn = 1
+
+-- by the server's numbers players who go the same way go the same way
+pub servers-way : (n : Numbers) (d e : Direction) → counted n d ≡ counted n e → n ≡ TheServers → d ≡ e
+servers-way TheServers d e same h = same
+servers-way TheOwn d e same h = absurd (omega (arith, ap kind h))
+
 -- ---- the rows on the game
 
+-- the row of a fact
+abbrev rows : Numbers → BoardFields → Fact → List ℕ
+rows n b = row_of false n b
+
 -- no row of the game has a line end
-game-plain : (b : BoardFields) → Ranges b → Plain (game_rows b (position_of b))
-unfolding game_rows
-game-plain b r = (
-  turn_row-lacks (whose (turn b) (colour b)) (phase_in (position_of b)),
-  (
-    dice_row-lacks (natural (field_of b 34)) (natural (field_of b 35)) (natural (field_of b 36))
-        (natural (field_of b 37)),
-    (
-      score_row-lacks (field_of b 5) (field_of b 6) (field_of b 4) r.own_score r.other_score r.length_of,
-      (cube_row-lacks b r.cube_is, (direction_row-lacks (position_of b).direction, tt)),
-    ),
-  ),
-)
+game-plain : (n : Numbers) (b : BoardFields) → Ranges b → ArePlain (rows n b)
+unfolding row_of row
+game-plain n b r = record {
+  turn = turn_row-lacks (whose (turn b) (colour b)) (phase_in (position_of b));
+  dice = dice_row-lacks (natural (field_of b 34)) (natural (field_of b 35)) (natural (field_of b 36))
+      (natural (field_of b 37));
+  score = score_row-lacks (field_of b 5) (field_of b 6) (field_of b 4) r.own_score r.other_score r.length_of;
+  cube = cube_row-lacks b r.cube_is;
+  way = direction_row-lacks (way n b);
+}
 
--- what is told of the checkers
-abbrev checkers_text : BoardFields → List ℕ
-checkers_text b = flat_map ended (checkers_rows b (position_of b))
+-- the first byte of the score's row
+score-first : (n : Numbers) (b : BoardFields) (r : List ℕ) → byte 0 (rows n b F.Score ++ r) ≡ 83
+unfolding row_of row score_row
+score-first n b r = refl
 
--- as many rows are told of each game
-as-many : (a b : BoardFields) → length (game_rows a (position_of a)) ≡ length (game_rows b (position_of b))
-unfolding game_rows
-as-many a b = refl
+-- of the cube's
+cube-first : (n : Numbers) (b : BoardFields) (r : List ℕ) → byte 0 (rows n b F.Cube ++ r) ≡ 67
+unfolding row_of row cube_row
+cube-first n b r = refl
 
-record SameParts (a b : BoardFields) : Type 0 where
-  game : game_rows a (position_of a) ≡ game_rows b (position_of b)
-  checkers : checkers_text a ≡ checkers_text b
+-- of the way's, and its fourth
+way_row-bytes : (d : Direction) (r : List ℕ)
+    → (byte 0 (direction_row d ++ r) ≡ 89) × (byte 3 (direction_row d ++ r) ≡ 32)
+way_row-bytes Down r = (refl, refl)
+way_row-bytes Up r = (refl, refl)
 
--- boards with the same words have the same rows of the game and of the checkers
-same-parts : (a b : BoardFields) → Ranges a → Ranges b → words a ≡ words b → SameParts a b
-unfolding told
-same-parts a b r s e =
-    let t = rows-tell (game_rows a (position_of a)) (game_rows b (position_of b)) (checkers_text a) (checkers_text b)
-    (as-many a b) (game-plain a r) (game-plain b s) e in
-    record { game = t.0; checkers = t.1 }
+way-first : (n : Numbers) (b : BoardFields) (r : List ℕ) → byte 0 (rows n b F.Way ++ r) ≡ 89
+unfolding row_of row
+way-first n b r = (way_row-bytes (way n b) r).0
 
--- the row at a place
-abbrev pub row_at : List (List ℕ) → ℕ → List ℕ
-row_at rows k = slice_index_or rows k []
+way-fourth : (n : Numbers) (b : BoardFields) (r : List ℕ) → byte 3 (rows n b F.Way ++ r) ≡ 32
+unfolding row_of row
+way-fourth n b r = (way_row-bytes (way n b) r).1
+
+-- of the player's row, and its fourth
+own-first : (n : Numbers) (b : BoardFields) (r : List ℕ) → byte 0 (rows n b F.Own ++ r) ≡ 89
+unfolding row_of row side_row
+own-first n b r = refl
+
+own-fourth : (n : Numbers) (b : BoardFields) (r : List ℕ) → byte 3 (rows n b F.Own ++ r) ≡ 44
+unfolding row_of row side_row
+own-fourth n b r = refl
+
+-- so the rows that may be left out differ from those that may follow them
+distinct : (n : Numbers) (a b : BoardFields) → Distinct (rows n a) (rows n b)
+distinct n a b = record {
+  score_cube = differ-by 0 83 67 (rows n a F.Score) (rows n b F.Cube) (score-first n a) (cube-first n b)
+      (λ e. omega (arith, e));
+  score_way = differ-by 0 83 89 (rows n a F.Score) (rows n b F.Way) (score-first n a) (way-first n b)
+      (λ e. omega (arith, e));
+  score_own = differ-by 0 83 89 (rows n a F.Score) (rows n b F.Own) (score-first n a) (own-first n b)
+      (λ e. omega (arith, e));
+  cube_way = differ-by 0 67 89 (rows n a F.Cube) (rows n b F.Way) (cube-first n a) (way-first n b)
+      (λ e. omega (arith, e));
+  cube_own = differ-by 0 67 89 (rows n a F.Cube) (rows n b F.Own) (cube-first n a) (own-first n b)
+      (λ e. omega (arith, e));
+  way_own = differ-by 3 32 44 (rows n a F.Way) (rows n b F.Own) (way-fourth n a) (own-fourth n b)
+      (λ e. omega (arith, e));
+}
 
 -- the row of a board's dice
-abbrev own_dice : BoardFields → List ℕ
+abbrev pub own_dice : BoardFields → List ℕ
 own_dice b = dice_row (natural (field_of b 34)) (natural (field_of b 35)) (natural (field_of b 36))
     (natural (field_of b 37))
 
-record SameGame (a b : BoardFields) : Type 0 where
+record SameGame (n : Numbers) (a b : BoardFields) : Type 0 where
   turn_is : turn_row (whose (turn a) (colour a)) (phase_in (position_of a))
       ≡ turn_row (whose (turn b) (colour b)) (phase_in (position_of b))
   dice_are : own_dice a ≡ own_dice b
   score_is : score_row (field_of a 5) (field_of a 6) (field_of a 4)
       ≡ score_row (field_of b 5) (field_of b 6) (field_of b 4)
   cube_is : cube_row a ≡ cube_row b
-  direction_is : direction_row (position_of a).direction ≡ direction_row (position_of b).direction
+  way_is : direction_row (way n a) ≡ direction_row (way n b)
 
--- boards with the same rows of the game have the same row for each part
-same-game : (a b : BoardFields) → game_rows a (position_of a) ≡ game_rows b (position_of b) → SameGame a b
-unfolding game_rows
-same-game a b e = record {
-  turn_is = ap (λ l. row_at l 0) e;
-  dice_are = ap (λ l. row_at l 1) e;
-  score_is = ap (λ l. row_at l 2) e;
-  cube_is = ap (λ l. row_at l 3) e;
-  direction_is = ap (λ l. row_at l 4) e;
+-- boards with the same rows have the same game
+same-game : (before : Option (Fact → List ℕ)) (n : Numbers) (a b : BoardFields)
+    → SameRows before (rows n a) (rows n b) → SameGame n a b
+unfolding row_of row
+same-game before n a b s = record {
+  turn_is = s.turn;
+  dice_are = s.dice;
+  score_is = s.score;
+  cube_is = s.cube;
+  way_is = s.way;
 }
 
 -- ---- the rows on the checkers
 
--- three rows, each with its end, in a row
-pub three-rows : (x y z : List ℕ)
-    → flat_map ended (x ∷ y ∷ z ∷ []) ≡ x ++ (10 ∷ (y ++ (10 ∷ (ended z ++ []))))
-three-rows x y z =
-    append_assoc x (10 ∷ []) (ended y ++ (ended z ++ []))
-    ∙ ap (λ t. x ++ (10 ∷ t)) (append_assoc y (10 ∷ []) (ended z ++ []))
+-- two rows, each with its end, and what follows
+pub two-rows : (x y t : List ℕ) → ended x ++ (ended y ++ t) ≡ x ++ (10 ∷ (y ++ (10 ∷ t)))
+two-rows x y t =
+    append_assoc x (10 ∷ []) (ended y ++ t) ∙ ap (λ u. x ++ (10 ∷ u)) (append_assoc y (10 ∷ []) t)
 
 -- the checkers of a board, as its player sees them
 abbrev pub checkers : BoardFields → Checkers
@@ -137,23 +186,22 @@ abbrev other_row : BoardFields → Direction → List ℕ
 other_row b d = side_row (take 30 b.opponent) (other_pips (checkers b)) d side.Other (count_on (checkers b) side.Other)
 
 -- what follows the player's row
-abbrev after_own : BoardFields → Direction → List ℕ
-after_own b d = 10 ∷ (other_row b d ++ (10 ∷ (ended (held_row d (checkers b)) ++ [])))
+abbrev after_own : BoardFields → Direction → List ℕ → List ℕ
+after_own b d t = 10 ∷ (other_row b d ++ (10 ∷ t))
 
--- what is told of the checkers begins with the player's row
-checkers-parts : (b : BoardFields)
-    → checkers_text b ≡ own_row b (position_of b).direction ++ after_own b (position_of b).direction
-unfolding checkers_rows
-checkers-parts b =
-    let d = (position_of b).direction in
-    three-rows (own_row b d) (other_row b d) (held_row d (checkers b))
+-- what is told of the sides begins with the player's row
+sides-parts : (before : Option (Fact → List ℕ)) (n : Numbers) (b : BoardFields) → sides before (rows n b)
+    ≡ own_row b (way n b) ++ after_own b (way n b) (after_sides before (rows n b))
+unfolding row_of row
+sides-parts before n b =
+    two-rows (own_row b (way n b)) (other_row b (way n b)) (after_sides before (rows n b))
 
 -- no place of a good board has more than 15 checkers of the player
-own-counts-few : (b : BoardFields) → IsGood b → Few (count_on (checkers b) side.Own)
+pub own-counts-few : (b : BoardFields) → IsGood b → Few (count_on (checkers b) side.Own)
 own-counts-few b good k = let few = own-few b good.own (25 - k) in omega (arith, few)
 
 -- or of the opponent
-other-counts-few : (b : BoardFields) → IsGood b → Few (count_on (checkers b) side.Other)
+pub other-counts-few : (b : BoardFields) → IsGood b → Few (count_on (checkers b) side.Other)
 other-counts-few b good k = let few = other-few b good.other k in omega (arith, few)
 
 pub record SameCheckers (a b : BoardFields) : Type 0 where
@@ -166,20 +214,27 @@ pub tail-same : (s t : List ℕ) → 10 ∷ s ≡ 10 ∷ t → s ≡ t
 tail-same s t e = cc
 
 -- boards of one direction with the same rows of the checkers have the same counts
-same-checkers : (a b : BoardFields) → IsGood a → IsGood b → (position_of a).direction ≡ (position_of b).direction
-    → checkers_text a ≡ checkers_text b → SameCheckers a b
-same-checkers a b ga gb way e =
-    let d = (position_of a).direction in
-    let whole : own_row a d ++ after_own a d ≡ own_row b d ++ after_own b d =
-    sym (checkers-parts a) ∙ e ∙ checkers-parts b ∙ ap (λ t. own_row b t ++ after_own b t) (sym way) in
+same-checkers : (d : Direction) (a b : BoardFields) (t u : List ℕ) → IsGood a → IsGood b
+    → own_row a d ++ after_own a d t ≡ own_row b d ++ after_own b d u → SameCheckers a b
+same-checkers d a b t u ga gb whole =
     let own = side-tells d side.Own (codes "You") (codes "You") (own_pips (checkers a)) (own_pips (checkers b))
-    (count_on (checkers a) side.Own) (count_on (checkers b) side.Own) (after_own a d) (after_own b d) refl refl
+    (count_on (checkers a) side.Own) (count_on (checkers b) side.Own) (after_own a d t) (after_own b d u) refl refl
     (own-pips-few a ga.own) (own-pips-few b gb.own) (own-counts-few a ga) (own-counts-few b gb) whole in
     let other = side-tells d side.Other (take 30 a.opponent) (take 30 b.opponent) (other_pips (checkers a))
     (other_pips (checkers b)) (count_on (checkers a) side.Other) (count_on (checkers b) side.Other) _ _
     (name-lacks a.opponent ga.board.1) (name-lacks b.opponent gb.board.1) (other-pips-few a ga.other)
     (other-pips-few b gb.other) (other-counts-few a ga) (other-counts-few b gb) (tail-same _ _ own.2) in
     record { own = own.1; other = other.1; opponent = other.0 }
+
+-- the same of rows that are told
+sides-tell : (before : Option (Fact → List ℕ)) (n : Numbers) (a b : BoardFields) → IsGood a → IsGood b
+    → way n a ≡ way n b → sides before (rows n a) ≡ sides before (rows n b) → SameCheckers a b
+sides-tell before n a b ga gb ways e =
+    let t = after_sides before (rows n a) in
+    let u = after_sides before (rows n b) in
+    same-checkers (way n a) a b t u ga gb
+    (sym (sides-parts before n a) ∙ e ∙ sides-parts before n b
+    ∙ ap (λ d. own_row b d ++ after_own b d u) (sym ways))
 
 -- ---- the arrangement
 
@@ -227,8 +282,9 @@ view-same a b s = arranged-same (own_view a).own (own_view b).own (own_view a).o
 -- ---- what words determine
 
 -- boards with the same game and the same checkers are the same to the eye
-told-same : (a b : BoardFields) → Ranges a → Ranges b → SameGame a b → SameCheckers a b → SameToTheEye a b
-told-same a b r s g c =
+told-same : (n : Numbers) (a b : BoardFields) → Ranges a → Ranges b → SameGame n a b → SameCheckers a b
+    → SameToTheEye n a b
+told-same n a b r s g c =
     let turns = turn_row-tells (whose (turn a) (colour a)) (whose (turn b) (colour b)) (phase_in (position_of a))
     (phase_in (position_of b)) g.turn_is in
     let dice_same = dice_row-tells (natural (field_of a 34)) (natural (field_of a 35)) (natural (field_of a 36))
@@ -239,7 +295,8 @@ told-same a b r s g c =
     let cube_same = cube_row-tells a b r.cube_is s.cube_is g.cube_is in
     record {
       arrangement = view-same a b c;
-      direction = direction_row-tells (position_of a).direction (position_of b).direction g.direction_is;
+      direction = servers-way n (position_of a).direction (position_of b).direction
+          (direction_row-tells (way n a) (way n b) g.way_is);
       turn = turns.0;
       phase = turns.1;
       dice = four-same _ _ _ _ _ _ _ _
@@ -255,12 +312,19 @@ told-same a b r s g c =
       opponent = c.opponent;
     }
 
+-- the words of a board of the user's own are its rows
+own-words : (before : Option (Fact → List ℕ)) (n : Numbers) (b : BoardFields)
+    → words before false n b ≡ told_rows before (rows n b) 9
+unfolding words
+own-words before n b = refl
+
 -- boards with the same words are the same to the eye
 pub words_tell : FieldRanges → WordsTell
-words_tell f a b ga gb e =
+words_tell f before n a b ga gb e =
     let r = ranges-of f a ga.board in
     let s = ranges-of f b gb.board in
-    let parts = same-parts a b r s e in
-    let game = same-game a b parts.game in
-    told-same a b r s game (same-checkers a b ga gb
-    (direction_row-tells (position_of a).direction (position_of b).direction game.direction_is) parts.checkers)
+    let known = rows-known before (rows n a) (rows n b) (game-plain n a r) (game-plain n b s) (distinct n a b)
+    (distinct n b a) (sym (own-words before n a) ∙ e ∙ own-words before n b) in
+    let game = same-game before n a b known in
+    told-same n a b r s game
+    (sides-tell before n a b ga gb (direction_row-tells (way n a) (way n b) game.way_is) known.sides_are)

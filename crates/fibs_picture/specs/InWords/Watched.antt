@@ -1,22 +1,23 @@
 -- A board that the user watches, in words (the project's own): rows as those of his own board, with the names of both
 -- players. Of a name the first 30 bytes are told.
-use Rattle.std.specs.Prelude.{◌++◌, ◌==◌, ◌&&◌, not, ℕ, Bool, true, false, List, [], ◌∷◌, codes, take, if◌then◌else◌}
+use Rattle.std.specs.Prelude.{◌++◌, ◌==◌, ◌&&◌, not, ℕ, Bool, true, false, List, codes, if◌then◌else◌}
 use Rattle.std.specs.Fmt.{signed_decimal}
-use Rattle.std.specs.List.{flat_map}
 use Rattle.std.specs.Ordering.{int_eq}
 use Rattle.fibs_fields.specs.Board.{BoardFields, field_of}
 use Rattle.fibs_fields.specs.FieldReading.{natural}
 use Rattle.fibs_rules.specs.Checkers.{Checkers}
 use Rattle.fibs_position.specs.OwnView.{turn, colour}
 use Rattle.fibs_position.specs.Phases.{phase_in}
-use Rattle.fibs_position.specs.PositionValue.{PositionValue, position_of}
+use Rattle.fibs_position.specs.PositionValue.{PositionValue}
 use Rattle.fibs_position.specs.declared.direction.Direction.{Direction}
 use Rattle.fibs_position.specs.declared.direction.Direction.TheVariants.{Down, Up}
 use Rattle.fibs_position.specs.declared.phase.Phase.{Phase}
 use Rattle.fibs_position.specs.declared.phase.Phase.TheVariants as phase
-use Rattle.fibs_picture.specs.Fits.{ended}
 use Rattle.fibs_picture.specs.Picture.{own_pips, other_pips, is_one}
-use Rattle.fibs_picture.specs.InWords.Words.{pair, score_row, side_row, count_on, numbers, held}
+use Rattle.fibs_picture.specs.InWords.Words.{pair, score_row, side_row, count_on, numbers_of, blots_of, both_blots}
+use Rattle.fibs_picture.specs.declared.in_words.fact.Fact.{Fact}
+use Rattle.fibs_picture.specs.declared.in_words.fact.Fact.TheVariants as F
+use Rattle.fibs_picture.specs.declared.in_words.listed.Listed.TheVariants as L
 use Rattle.fibs_picture.specs.declared.in_words.side.Side.TheVariants as side
 
 -- who plays
@@ -71,34 +72,27 @@ way_said Up = codes " goes up, from 1 to 24."
 -- on which places the player can't come
 unfoldable pub held_named : Direction → Checkers → List ℕ → List ℕ
 held_named d c player =
-    codes "Held against " ++ (player ++ (codes ": " ++ (numbers d (held c 24) ++ codes ".")))
+    codes "Held against " ++ (player ++ (codes ": " ++ (numbers_of d c L.Held ++ codes ".")))
+
+-- the blots of both
+unfoldable pub blots_named : Direction → Checkers → List ℕ → List ℕ → List ℕ
+blots_named d c player opponent =
+    both_blots (blots_of d c L.OwnBlots player (codes "'s ")) (blots_of d c L.OtherBlots opponent (codes "'s "))
 
 -- ---- the board
 
--- what is told of the game
-unfoldable pub named_game_rows : BoardFields → PositionValue → List ℕ → List ℕ → List (List ℕ)
-named_game_rows b p player opponent =
-    against_row player opponent
-    ∷ turn_named (is_others b) (phase_in p) player opponent
-    ∷ dice_named player (dice_said (natural (field_of b 34)) (natural (field_of b 35)))
+-- a fact in a row, by the numbers by which the player goes this way, with the names of the two
+unfoldable pub named_row : Direction → BoardFields → PositionValue → List ℕ → List ℕ → Fact → List ℕ
+named_row d b p player opponent F.Turn = turn_named (is_others b) (phase_in p) player opponent
+named_row d b p player opponent F.Dice =
+    dice_named player (dice_said (natural (field_of b 34)) (natural (field_of b 35)))
     opponent (dice_said (natural (field_of b 36)) (natural (field_of b 37)))
-    ∷ score_row (field_of b 5) (field_of b 6) (field_of b 4)
-    ∷ cube_named b player opponent
-    ∷ (player ++ way_said p.direction) ∷ []
-
--- what is told of the checkers
-unfoldable pub named_checkers_rows : PositionValue → List ℕ → List ℕ → List (List ℕ)
-named_checkers_rows p player opponent =
-    let c = p.standing.checkers in
-    side_row player (own_pips c) p.direction side.Own (count_on c side.Own)
-    ∷ side_row opponent (other_pips c) p.direction side.Other (count_on c side.Other)
-    ∷ held_named p.direction c player ∷ []
-
--- what is told of a board whose position is this
-unfoldable pub named_told : BoardFields → PositionValue → List ℕ → List ℕ → List ℕ
-named_told b p player opponent =
-    flat_map ended (named_game_rows b p player opponent) ++ flat_map ended (named_checkers_rows p player opponent)
-
--- a board that the user watches, in words
-abbrev pub watched_words : BoardFields → List ℕ
-watched_words b = named_told b (position_of b) (take 30 b.player) (take 30 b.opponent)
+named_row d b p player opponent F.Score = score_row (field_of b 5) (field_of b 6) (field_of b 4)
+named_row d b p player opponent F.Cube = cube_named b player opponent
+named_row d b p player opponent F.Way = player ++ way_said d
+named_row d b p player opponent F.Own =
+    let c = p.standing.checkers in side_row player (own_pips c) d side.Own (count_on c side.Own)
+named_row d b p player opponent F.Other =
+    let c = p.standing.checkers in side_row opponent (other_pips c) d side.Other (count_on c side.Other)
+named_row d b p player opponent F.Held = held_named d p.standing.checkers player
+named_row d b p player opponent F.Blots = blots_named d p.standing.checkers player opponent

@@ -10,14 +10,17 @@ use Rattle.fibs_rules.specs.Checkers.{Checkers}
 use Rattle.fibs_position.specs.DirectionOf.{line_place}
 use Rattle.fibs_position.specs.OwnView.{turn, colour}
 use Rattle.fibs_position.specs.Phases.{phase_in}
-use Rattle.fibs_position.specs.PositionValue.{PositionValue, position_of}
+use Rattle.fibs_position.specs.PositionValue.{PositionValue}
 use Rattle.fibs_position.specs.declared.direction.Direction.{Direction}
 use Rattle.fibs_position.specs.declared.direction.Direction.TheVariants.{Down, Up}
 use Rattle.fibs_position.specs.declared.phase.Phase.{Phase}
 use Rattle.fibs_position.specs.declared.phase.Phase.TheVariants as phase
-use Rattle.fibs_picture.specs.Fits.{ended}
 use Rattle.fibs_picture.specs.Picture.{own_pips, other_pips, match_length, doublers, is_one}
 use Rattle.fibs_picture.specs.Told.{Whose, nobodys, the_players, the_opponents}
+use Rattle.fibs_picture.specs.declared.in_words.fact.Fact.{Fact}
+use Rattle.fibs_picture.specs.declared.in_words.fact.Fact.TheVariants as F
+use Rattle.fibs_picture.specs.declared.in_words.listed.Listed.{Listed}
+use Rattle.fibs_picture.specs.declared.in_words.listed.Listed.TheVariants as L
 use Rattle.fibs_picture.specs.declared.in_words.side.Side.{Side}
 use Rattle.fibs_picture.specs.declared.in_words.side.Side.TheVariants as side
 
@@ -123,56 +126,74 @@ unfoldable pub side_row : List ℕ → ℕ → Direction → Side → (ℕ → �
 side_row name pips d side count =
     name ++ (codes ", " ++ (decimal pips ++ (codes " pips: " ++ (stacks d side count 25 ++ off_said (count 25)))))
 
--- the opponent has two checkers or more on a place
-abbrev pub is_held : Checkers → ℕ → Bool
-is_held c steps = nat_lt 1 (slice_index c.other (25 - steps))
+-- ---- places that are listed
 
--- the places that are held, by the steps from the player's bar
-unfoldable pub held : Checkers → ℕ → List ℕ
-held c many = filter (is_held c) (range_with_len 1 many)
+-- a place, by the steps from a side's bar, is one of those: the opponent has two checkers or more there, so that the
+-- player can't come; or the side has one checker alone there, a blot
+abbrev pub is_listed : Checkers → Listed → ℕ → Bool
+is_listed c L.Held steps = nat_lt 1 (slice_index c.other (25 - steps))
+is_listed c L.OwnBlots steps = count_on c side.Own steps == 1
+is_listed c L.OtherBlots steps = count_on c side.Other steps == 1
+
+-- the side that counts the steps
+abbrev pub counted_by : Listed → Side
+counted_by L.Held = side.Own
+counted_by L.OwnBlots = side.Own
+counted_by L.OtherBlots = side.Other
+
+-- the places, the farthest from home first
+unfoldable pub listed : Checkers → Listed → ℕ → List ℕ
+listed c which many = filter (is_listed c which) (range_with_len 1 many)
 
 -- the numbers of places, with a comma between two
-unfoldable pub joined : Direction → List ℕ → List ℕ
-joined d places = join_by (place_name d side.Own) (codes ", ") places
+unfoldable pub joined : Direction → Side → List ℕ → List ℕ
+joined d s places = join_by (place_name d s) (codes ", ") places
 
 -- the number of a place that comes after so many
-abbrev pub next_name : Direction → ℕ → ℕ → List ℕ
-next_name d count place =
-    if count == 0 then place_name d side.Own place else codes ", " ++ place_name d side.Own place
+abbrev pub next_name : Direction → Side → ℕ → ℕ → List ℕ
+next_name d s count place =
+    if count == 0 then place_name d s place else codes ", " ++ place_name d s place
 
 -- the numbers, or that there are none
-unfoldable pub numbers : Direction → List ℕ → List ℕ
-numbers d [] = codes "none"
-numbers d (place ∷ places) = joined d (place ∷ places)
+unfoldable pub numbers : Direction → Side → List ℕ → List ℕ
+numbers d s [] = codes "none"
+numbers d s (place ∷ places) = joined d s (place ∷ places)
+
+-- the numbers of the places of a board
+abbrev pub numbers_of : Direction → Checkers → Listed → List ℕ
+numbers_of d c which = numbers d (counted_by which) (listed c which 24)
 
 -- on which places the player can't come
 unfoldable pub held_row : Direction → Checkers → List ℕ
 held_row d c =
-    codes "Held against you: " ++ (numbers d (held c 24) ++ codes ".")
+    codes "Held against you: " ++ (numbers_of d c L.Held ++ codes ".")
+
+-- the blots of a side, by what says whose they are
+unfoldable pub blots_of : Direction → Checkers → Listed → List ℕ → List ℕ → List ℕ
+blots_of d c which name words = name ++ (words ++ numbers_of d c which)
+
+-- the blots of both sides
+abbrev pub both_blots : List ℕ → List ℕ → List ℕ
+both_blots own other = codes "Blots: " ++ (own ++ (codes "; " ++ (other ++ codes ".")))
+
+-- the blots of the player, and of the opponent by his name
+unfoldable pub blots_row : Direction → Checkers → List ℕ → List ℕ
+blots_row d c opponent =
+    both_blots (blots_of d c L.OwnBlots (codes "yours") (codes " ")) (blots_of d c L.OtherBlots opponent (codes "'s "))
 
 -- ---- the board
 
--- what is told of the game
-unfoldable pub game_rows : BoardFields → PositionValue → List (List ℕ)
-game_rows b p =
-    turn_row (whose (turn b) (colour b)) (phase_in p)
-    ∷ dice_row (natural (field_of b 34)) (natural (field_of b 35)) (natural (field_of b 36)) (natural (field_of b 37))
-    ∷ score_row (field_of b 5) (field_of b 6) (field_of b 4)
-    ∷ cube_row b
-    ∷ direction_row p.direction ∷ []
-
--- what is told of the checkers. A name is told by its first 30 bytes
-unfoldable pub checkers_rows : BoardFields → PositionValue → List (List ℕ)
-checkers_rows b p =
-    let c = p.standing.checkers in
-    side_row (codes "You") (own_pips c) p.direction side.Own (count_on c side.Own)
-    ∷ side_row (take 30 b.opponent) (other_pips c) p.direction side.Other (count_on c side.Other)
-    ∷ held_row p.direction c ∷ []
-
--- what is told of a board whose position is this
-unfoldable pub told : BoardFields → PositionValue → List ℕ
-told b p = flat_map ended (game_rows b p) ++ flat_map ended (checkers_rows b p)
-
--- a board in words
-abbrev pub words : BoardFields → List ℕ
-words b = told b (position_of b)
+-- a fact in a row, by the numbers by which the player goes this way. A name is told by its first 30 bytes
+unfoldable pub row : Direction → BoardFields → PositionValue → Fact → List ℕ
+row d b p F.Turn = turn_row (whose (turn b) (colour b)) (phase_in p)
+row d b p F.Dice =
+    dice_row (natural (field_of b 34)) (natural (field_of b 35)) (natural (field_of b 36)) (natural (field_of b 37))
+row d b p F.Score = score_row (field_of b 5) (field_of b 6) (field_of b 4)
+row d b p F.Cube = cube_row b
+row d b p F.Way = direction_row d
+row d b p F.Own =
+    let c = p.standing.checkers in side_row (codes "You") (own_pips c) d side.Own (count_on c side.Own)
+row d b p F.Other =
+    let c = p.standing.checkers in side_row (take 30 b.opponent) (other_pips c) d side.Other (count_on c side.Other)
+row d b p F.Held = held_row d p.standing.checkers
+row d b p F.Blots = blots_row d p.standing.checkers (take 30 b.opponent)

@@ -11,7 +11,7 @@ ghost use Rattle.fibs_picture.specs.Picture.{is_one};
 ghost use Rattle.fibs_picture.specs.InWords.Watched.{against_row, is_others, offered_said, turn_named, dice_said, dice_named, owner_said, cube_named, way_said, held_named};
 
 use crate::in_words::dice::{is_none, write_pair};
-use crate::in_words::held::write_numbers;
+use crate::in_words::listed::{Listed, write_numbers};
 use crate::writing::{write_digits, write_text};
 use fibs_fields::boards::Board;
 use fibs_fields::boards::fields::{
@@ -258,12 +258,17 @@ pub fn write_named_direction<W: Write>(
 
 /// Writes on which places the player can't come.
 #[tactic(auto, unfolding(crate::specs::InWords::Watched::held_named))]
-pub fn write_named_held<W: Write>(position: &Position, player: &[u8], out: &mut W) -> io::Result<()>
-    ensures { let p = position_value position.now in OnOk result (Appends (W.contents out.old) (W.contents out.new)
-        (held_named p.direction p.standing.checkers player.now)) }
+pub fn write_named_held<W: Write>(
+    direction: Direction,
+    position: &Position,
+    player: &[u8],
+    out: &mut W,
+) -> io::Result<()>
+    ensures { OnOk result (Appends (W.contents out.old) (W.contents out.new)
+        (held_named direction (position_value position.now).standing.checkers player.now)) }
 {
     write_text(b"Held against ", out)?;
     write_named(player, b": ", out)?;
-    write_numbers(position, out)?;
+    write_numbers(direction, position, Listed::Held, out)?;
     write_text(b".", out)
 }

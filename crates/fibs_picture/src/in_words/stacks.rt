@@ -7,16 +7,22 @@ ghost use Rattle.fibs_picture.specs.InWords.Words.{count_on, stack, stacks, off_
 use crate::in_words::place::write_place;
 use crate::in_words::side::{OFF, Side};
 use crate::writing::{write_digits, write_text};
-use fibs_position::Position;
+use fibs_position::{Direction, Position};
 use std::io;
 use std::io::Write;
 
 /// Writes that so many checkers are on a place of a side; nothing if there are none.
 #[tactic(auto, unfolding(crate::specs::InWords::Words::stack))]
-fn write_stack<W: Write>(position: &Position, side: Side, steps: u8, out: &mut W) -> io::Result<()>
+fn write_stack<W: Write>(
+    direction: Direction,
+    position: &Position,
+    side: Side,
+    steps: u8,
+    out: &mut W,
+) -> io::Result<()>
     requires { steps ≤ 25 }
-    ensures { let p = position_value position.now in OnOk result (Appends (W.contents out.old) (W.contents out.new)
-        (stack p.direction side (count_on p.standing.checkers side) steps)) }
+    ensures { OnOk result (Appends (W.contents out.old) (W.contents out.new)
+        (stack direction side (count_on (position_value position.now).standing.checkers side) steps)) }
 {
     let count = side.count(position, steps);
     if count == 0 {
@@ -24,17 +30,22 @@ fn write_stack<W: Write>(position: &Position, side: Side, steps: u8, out: &mut W
     }
     write_digits(count, out)?;
     write_text(b" on ", out)?;
-    write_place(position.direction(), side, steps, out)?;
+    write_place(direction, side, steps, out)?;
     write_text(b", ", out)
 }
 
 /// Writes where the checkers of a side are, from its bar on.
-fn write_stacks<W: Write>(position: &Position, side: Side, out: &mut W) -> io::Result<()>
-    ensures { let p = position_value position.now in OnOk result (Appends (W.contents out.old) (W.contents out.new)
-        (stacks p.direction side (count_on p.standing.checkers side) 25)) }
+fn write_stacks<W: Write>(
+    direction: Direction,
+    position: &Position,
+    side: Side,
+    out: &mut W,
+) -> io::Result<()>
+    ensures { OnOk result (Appends (W.contents out.old) (W.contents out.new)
+        (stacks direction side (count_on (position_value position.now).standing.checkers side) 25)) }
 {
     for steps in 0..OFF {
-        write_stack(position, side, steps, out)?;
+        write_stack(direction, position, side, steps, out)?;
     }
     Ok(())
 }
@@ -51,12 +62,17 @@ fn write_off<W: Write>(count: u8, out: &mut W) -> io::Result<()>
 }
 
 /// Writes where the checkers of a side are, and how many are off.
-fn write_checkers<W: Write>(position: &Position, side: Side, out: &mut W) -> io::Result<()>
-    ensures { let p = position_value position.now in let count = count_on p.standing.checkers side in
+fn write_checkers<W: Write>(
+    direction: Direction,
+    position: &Position,
+    side: Side,
+    out: &mut W,
+) -> io::Result<()>
+    ensures { let count = count_on (position_value position.now).standing.checkers side in
         OnOk result (Appends (W.contents out.old) (W.contents out.new)
-        (stacks p.direction side count 25 ++ off_said (count 25))) }
+        (stacks direction side count 25 ++ off_said (count 25))) }
 {
-    write_stacks(position, side, out)?;
+    write_stacks(direction, position, side, out)?;
     write_off(side.count(position, OFF), out)
 }
 
@@ -65,16 +81,17 @@ fn write_checkers<W: Write>(position: &Position, side: Side, out: &mut W) -> io:
 pub fn write_side<W: Write>(
     name: &[u8],
     pips: u32,
+    direction: Direction,
     position: &Position,
     side: Side,
     out: &mut W,
 ) -> io::Result<()>
-    ensures { let p = position_value position.now in OnOk result (Appends (W.contents out.old) (W.contents out.new)
-        (side_row name.now pips p.direction side (count_on p.standing.checkers side))) }
+    ensures { OnOk result (Appends (W.contents out.old) (W.contents out.new)
+        (side_row name.now pips direction side (count_on (position_value position.now).standing.checkers side))) }
 {
     write_text(name, out)?;
     write_text(b", ", out)?;
     write_digits(pips, out)?;
     write_text(b" pips: ", out)?;
-    write_checkers(position, side, out)
+    write_checkers(direction, position, side, out)
 }

@@ -3,7 +3,8 @@ use Rattle.std.specs.Prelude.{OnOk}
 use Rattle.std.specs.Io.KnownBytes.{Appends}
 use Rattle.fibs_position.specs.PositionValue.{position_value}
 use Rattle.fibs_picture.specs.InWords.Watched.{held_named}
-use Rattle.fibs_picture.specs.InWords.Words.{held, numbers}
+use Rattle.fibs_picture.specs.InWords.Words.{numbers_of}
+use Rattle.fibs_picture.specs.declared.in_words.listed.Listed.TheVariants as L
 use Rattle.fibs_picture.proofs.WordsLemmas.Growing.{written-after}
 use Rattle.fibs_picture.proofs.in_words.named.write_named_held.Goals as goal
 
@@ -11,7 +12,7 @@ pub returns : goal.returns
 unfolding held_named
 returns g c =
     let p = position_value c.args.position.now in
-    let said = numbers p.direction (held p.standing.checkers 24) in
+    let said = numbers_of c.args.direction p.standing.checkers L.Held in
     let player = c.args.player.now in
     let r = c.write_text-2.result in
     let before = g.W.Write.contents c.args.out.now in

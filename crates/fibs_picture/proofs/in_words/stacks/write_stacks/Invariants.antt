@@ -7,5 +7,5 @@ use Rattle.fibs_picture.proofs.in_words.stacks.write_stacks.Given as goal
 abbrev pub invariant-loop-steps : goal.invariant-loop-steps
 invariant-loop-steps g l =
     Appends (g.W.Write.contents l.initial.out) (g.W.Write.contents l.out)
-    (stacks (position_value l.position).direction l.side (count_on (position_value l.position).standing.checkers l.side)
+    (stacks l.direction l.side (count_on (position_value l.position).standing.checkers l.side)
     l.steps)
