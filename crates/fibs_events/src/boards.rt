@@ -1,0 +1,238 @@
+//! What boards say has happened.
+
+ghost use Rattle.std.specs.Prelude.{◌≡◌, IfOk, OnOk, IfSome, Some, None, Ok, true, false};
+ghost use Rattle.fibs_fields.specs.StoredBoard.{fields_of};
+ghost use Rattle.fibs_position.specs.GameOf.{game_of};
+ghost use Rattle.fibs_position.specs.GamePart.{same_game};
+ghost use Rattle.fibs_position.specs.GoodBoard.{good};
+ghost use Rattle.fibs_rules.specs.PlayValue.{hops_of};
+ghost use Rattle.fibs_events.specs.Happenings.{PlayedFrom, PlayedBy, dice_of, nothing};
+ghost use Rattle.fibs_events.specs.Known.{known_of};
+
+use crate::event::Side;
+use crate::happened::{Happened, Rolled, Turned, Won, WonMatch};
+use crate::memory::{Events, Game, Stage, kept};
+use crate::scores::{is_cube_doubled, is_same_match, is_same_score, won_between, won_match_on};
+use crate::turning::{dice_of, roller_of, turned};
+use fibs_fields::boards::Board;
+use fibs_fields::boards::fields::{MAY_DOUBLE, OTHER_MAY_DOUBLE, WAS_DOUBLED};
+use fibs_position::{GameBoard, Phase, differs};
+use std::alloc::{AllocError, Global};
+
+/// The roll that a board shows of the side whose turn it is.
+fn roll_on(game: &GameBoard) -> Option<Rolled>
+    ensures { IfSome result (λ rolled. rolled.dice ≡ dice_of rolled.who (game_of game.now)) }
+{
+    let who = roller_of(game)?;
+    Some(Rolled {
+        who,
+        dice: dice_of(who, game.board()),
+    })
+}
+
+/// Whether a board is of another game of the same match than the one before it.
+fn is_next_game(before: &GameBoard, game: &GameBoard, was_over: bool) -> bool {
+    let is_over = game.phase() == Phase::Over;
+    !is_over && (was_over || before.phase() == Phase::Over || !is_same_score(before, game))
+}
+
+/// Who has taken a double, by who may double next.
+fn taker_on(game: &GameBoard) -> Option<Side> {
+    let board = game.board();
+    match (board.field(MAY_DOUBLE), board.field(OTHER_MAY_DOUBLE)) {
+        (1, 0) => Some(Side::Own),
+        (0, 1) => Some(Side::Other),
+        _ => None,
+    }
+}
+
+impl Events {
+    /// A board of the user's game has come.
+    fn note_board(&mut self, game: &GameBoard)
+        ensures known { known_of self.new ≡ Some (game_of game.now) }
+    {
+        self.stage = Stage::Playing;
+        self.opponent = kept(game.board().opponent());
+        self.known = Some(*game);
+    }
+
+    /// The roll that a board shows, if it was not reported yet.
+    fn note_roll(&mut self, game: &GameBoard) -> Option<Rolled>
+        ensures { IfSome result (λ rolled. rolled.dice ≡ dice_of rolled.who (game_of game.now)) }
+    {
+        match roll_on(game) {
+            None => {
+                self.game.roll = None;
+                None
+            }
+            Some(roll) => self.game.note_roll(roll),
+        }
+    }
+
+    /// Who doubles, if a board says that the opponent does and it was not reported yet.
+    fn note_double(&mut self, game: &GameBoard) -> Option<Side> {
+        if game.board().field(WAS_DOUBLED) == 1 && game.phase() == Phase::AnswerDouble {
+            self.game.note_double(Side::Other)
+        } else {
+            None
+        }
+    }
+
+    /// What a board shows of a match or a game of which none is known.
+    fn hear_first<'a>(&mut self, game: &GameBoard) -> Happened<'a>
+        ensures played { result.played ≡ None }
+        ensures rolled { IfSome result.rolled (λ rolled. rolled.dice ≡ dice_of rolled.who (game_of game.now)) }
+    {
+        let mut happened = Happened::nothing();
+        happened.doubled = self.note_double(game);
+        happened.rolled = self.note_roll(game);
+        happened
+    }
+
+    /// The end of a game that scores show, if it was not reported yet. Nothing else is known of the game then.
+    fn note_end(&mut self, before: &GameBoard, game: &GameBoard) -> Option<Won> {
+        if self.game.is_over || is_same_score(before, game) {
+            return None;
+        }
+        self.game = Game::ended();
+        won_between(before, game)
+    }
+
+    /// The end of the match that a board shows, if it was not reported yet.
+    fn note_match_end(&mut self, game: &GameBoard) -> Option<WonMatch> {
+        if self.is_won || game.phase() != Phase::Over {
+            return None;
+        }
+        let won = won_match_on(game)?;
+        self.is_won = true;
+        Some(won)
+    }
+
+    /// What the first board of the next game shows.
+    fn hear_next_game<'a>(&mut self, before: &GameBoard, game: &GameBoard) -> Happened<'a>
+        ensures played { result.played ≡ None }
+        ensures rolled { IfSome result.rolled (λ rolled. rolled.dice ≡ dice_of rolled.who (game_of game.now)) }
+    {
+        let won = self.note_end(before, game);
+        self.game = Game::new();
+        let mut happened = self.hear_first(game);
+        happened.won = won;
+        happened
+    }
+
+    /// Takes note of a play.
+    fn note_play(&mut self, played: &Option<Turned>) {
+        if played.is_some() {
+            self.game.roll = None;
+            self.game.resignation = None;
+        }
+    }
+
+    /// What a board shows of the cube: who doubles, and who has accepted that.
+    fn note_cube(&mut self, before: &GameBoard, game: &GameBoard) -> (Option<Side>, Option<Side>) {
+        if !is_cube_doubled(before, game) {
+            return (self.note_double(game), None);
+        }
+        let told = self.game.doubled;
+        self.game.doubled = None;
+        match told {
+            Some(who) => (None, Some(who.other())),
+            None => match taker_on(game) {
+                Some(taker) => (Some(taker.other()), Some(taker)),
+                None => (None, None),
+            },
+        }
+    }
+
+    /// What a board shows of a game that goes on, with the play that leads to it.
+    fn hear_more<'a>(
+        &mut self,
+        before: &GameBoard,
+        game: &GameBoard,
+        played: Option<Turned>,
+    ) -> Happened<'a>
+        ensures played { result.played ≡ played }
+        ensures rolled { IfSome result.rolled (λ rolled. rolled.dice ≡ dice_of rolled.who (game_of game.now)) }
+    {
+        self.note_play(&played);
+        let mut happened = Happened::nothing();
+        happened.played = played;
+        let (doubled, accepted) = self.note_cube(before, game);
+        happened.doubled = doubled;
+        happened.accepted = accepted;
+        happened.rolled = self.note_roll(game);
+        happened.won = self.note_end(before, game);
+        happened.won_match = self.note_match_end(game);
+        happened
+    }
+
+    /// What a board of the user's game shows that is of the match that is known.
+    fn hear_after<'a>(
+        &mut self,
+        alloc: Global,
+        before: &GameBoard,
+        game: &GameBoard,
+    ) -> Result<Happened<'a>, AllocError>
+        ensures played { IfOk result (λ happened. IfSome happened.played (λ turned.
+            PlayedBy turned.who (game_of before.now) (hops_of turned.play) (game_of game.now))) }
+        ensures rolled { IfOk result (λ happened.
+            IfSome happened.rolled (λ rolled. rolled.dice ≡ dice_of rolled.who (game_of game.now))) }
+    {
+        if is_next_game(before, game, self.game.is_over) {
+            return Ok(self.hear_next_game(before, game));
+        }
+        let played = turned(alloc, before, game.board())?;
+        Ok(self.hear_more(before, game, played))
+    }
+
+    /// What a board of the user's game shows.
+    fn hear_game<'a>(&mut self, alloc: Global, game: &GameBoard) -> Result<Happened<'a>, AllocError>
+        ensures played { IfOk result (λ happened. IfSome happened.played (λ turned.
+            PlayedFrom (known_of self.old) turned.who (hops_of turned.play) (game_of game.now))) }
+        ensures rolled { IfOk result (λ happened.
+            IfSome happened.rolled (λ rolled. rolled.dice ≡ dice_of rolled.who (game_of game.now))) }
+        ensures repeated { IfSome (known_of self.old) (λ b.
+            same_game b (game_of game.now) ≡ true → result ≡ Ok nothing) }
+    {
+        let Some(before) = self.known else {
+            return Ok(self.hear_first(game));
+        };
+        if !differs(before.board(), game.board()) {
+            return Ok(Happened::nothing());
+        }
+        if !is_same_match(&before, game) {
+            self.game = Game::new();
+            self.is_won = false;
+            return Ok(self.hear_first(game));
+        }
+        self.hear_after(alloc, &before, game)
+    }
+
+    /// What a board shows. A play is one of the side that had rolled, and leads to this board from the one that is
+    /// known; a roll is what the board shows. The board that is known, shown again, shows nothing, and neither does one
+    /// on which the user does not play.
+    ///
+    /// Errors: if memory runs out; then the board is not taken note of.
+    pub(crate) fn hear_board<'a>(
+        &mut self,
+        alloc: Global,
+        board: &Board,
+    ) -> Result<Happened<'a>, AllocError>
+        ensures played { IfOk result (λ happened. IfSome happened.played (λ turned.
+            PlayedFrom (known_of self.old) turned.who (hops_of turned.play) (fields_of board.now))) }
+        ensures rolled { IfOk result (λ happened.
+            IfSome happened.rolled (λ rolled. rolled.dice ≡ dice_of rolled.who (fields_of board.now))) }
+        ensures repeated { IfSome (known_of self.old) (λ b.
+            same_game b (fields_of board.now) ≡ true → result ≡ Ok nothing) }
+        ensures known { good (fields_of board.now) ≡ true →
+            OnOk result (known_of self.new ≡ Some (fields_of board.now)) }
+        ensures others { good (fields_of board.now) ≡ false → (self.new ≡ self.old) × (result ≡ Ok nothing) }
+    {
+        let Ok(game) = GameBoard::of(board) else {
+            return Ok(Happened::nothing());
+        };
+        let happened = self.hear_game(alloc, &game)?;
+        self.note_board(&game);
+        Ok(happened)
+    }
+}

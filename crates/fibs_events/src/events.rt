@@ -1,0 +1,37 @@
+//! What a client's or a saved session's lines say has happened. Boards decide before texts: a play is one that leads
+//! from the board that is known to the next, or that a text names and the rules allow on it.
+
+ghost use Rattle.std.specs.Prelude.{◌≡◌, IfOk, IfSome, OnOk, Some, true};
+ghost use Rattle.fibs_fields.specs.Board.{BoardFields};
+ghost use Rattle.fibs_position.specs.GoodBoard.{good};
+ghost use Rattle.fibs_messages.specs.Line.{board_line, reading_of};
+ghost use Rattle.fibs_rules.specs.PlayValue.{hops_of};
+ghost use Rattle.fibs_events.specs.Known.{IsHeard, known_of};
+
+use crate::happened::Happened;
+use crate::memory::Events;
+use fibs_messages::Reading;
+use std::alloc::{AllocError, Global};
+
+impl Events {
+    /// What a line says, by its reading.
+    ///
+    /// Errors: if memory runs out; then the line is not taken note of.
+    pub fn hear<'a>(
+        &mut self,
+        alloc: Global,
+        reading: &Reading<'a>,
+    ) -> Result<Happened<'a>, AllocError>
+        ensures played { IfOk result (λ happened. IfSome happened.played (λ turned.
+            IsHeard (known_of self.old) (reading_of reading.now) turned.who (hops_of turned.play))) }
+        ensures known { (b : BoardFields) → (reading_of reading.now ≡ board_line b) → good b ≡ true →
+            OnOk result (known_of self.new ≡ Some b) }
+    {
+        match reading {
+            Reading::Board(board) => self.hear_board(alloc, board),
+            Reading::Text(text) => Ok(self.hear_text(text)),
+            Reading::Numbered(message) => Ok(Happened::of_said(self.hear_message(message))),
+            Reading::Malformed { .. } => Ok(Happened::nothing()),
+        }
+    }
+}
