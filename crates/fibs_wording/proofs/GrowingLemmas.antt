@@ -9,3 +9,11 @@ pub three-appended : {T E : Type 0} (r : Result T E) (old a x b first second thi
 three-appended (Ok t) old a x b first second third p q s =
     s ∙ ap (λ y. y ++ b) (q ∙ ap (λ y. y ++ x) p) ∙ append_assoc (old ++ a) x b ∙ append_assoc old a (x ++ b)
 three-appended (Err e) old a x b first second third p q s = tt
+
+-- the same of three pieces of which the last is appended by a call that may fail
+pub three-joined : {T E : Type 0} (r : Result T E) (old a x b first second third : List ℕ)
+    → first ≡ old ++ a → second ≡ first ++ x → OnOk r (third ≡ second ++ b)
+    → OnOk r (third ≡ old ++ (a ++ (x ++ b)))
+three-joined (Ok t) old a x b first second third p q s =
+    s ∙ ap (λ y. y ++ b) (q ∙ ap (λ y. y ++ x) p) ∙ append_assoc (old ++ a) x b ∙ append_assoc old a (x ++ b)
+three-joined (Err e) old a x b first second third p q s = tt

@@ -1,4 +1,7 @@
--- What the server's texts say of invitations and of saved matches, and how rows are broken.
+-- What the server's texts say of invitations and of saved matches, matches that have ended, and how rows are broken.
 pub mod Invitations
 pub mod SavedMatches
 pub mod Broken
+pub mod Matches
+pub mod Rated
+pub mod Greetings

@@ -64,3 +64,24 @@ pub fn append_date(seconds: u64, zone: &Zone<'_>, text: &mut Vec<u8>) -> Result<
     text.extend_from_slice(b", ")?;
     append_time(seconds, zone, text)
 }
+
+/// Appends the date and the time by numbers alone, the year first: `2003-01-05 14:05`; `-` if it is not known.
+pub fn append_stamp(
+    seconds: Option<u64>,
+    zone: &Zone<'_>,
+    text: &mut Vec<u8>,
+) -> Result<(), AllocError> {
+    let Some(seconds) = seconds else {
+        return text.extend_from_slice(b"-");
+    };
+    let Some(shown) = ClockTime::at(seconds, zone) else {
+        return text.extend_from_slice(b"-");
+    };
+    append_number(shown.year, text)?;
+    text.extend_from_slice(b"-")?;
+    append_two(shown.month, text)?;
+    text.extend_from_slice(b"-")?;
+    append_two(shown.day, text)?;
+    text.extend_from_slice(b" ")?;
+    append_time(seconds, zone, text)
+}

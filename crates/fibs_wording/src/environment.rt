@@ -7,13 +7,15 @@ mod config;
 mod environment;
 mod page;
 pub mod pieces;
+mod record;
 mod settings;
 pub mod shown;
 mod zone;
 
 pub use clock::ClockTime;
-pub use config::{Config, Setting, read_numbers, read_setting};
+pub use config::{Config, Setting, Telling, read_numbers, read_place, read_setting};
 pub use environment::terminal_settings;
 pub use page::Page;
+pub use record::RecordFile;
 pub use settings::Settings;
 pub use zone::{Clocks, Zone};

@@ -2,13 +2,16 @@
 //! the user's own settings.
 #![tactic(auto)]
 
-mod dates;
+pub mod dates;
 pub mod environment;
 pub mod help;
 pub mod invitations;
 pub mod lists;
+pub mod matches;
+pub mod meant;
 pub mod messages;
 pub mod players;
+pub mod rated;
 pub mod reasons;
 pub mod saved;
 pub mod server_words;

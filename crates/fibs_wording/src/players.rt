@@ -38,6 +38,11 @@ const IDLE_COLUMNS: usize = 6;
 /// right.
 const LEAST_RATINGS: [u32; 3] = [100_000, 10_000, 1_000];
 
+/// What makes a whole point of a rating, and half of it.
+const HUNDRED: u32 = 100;
+
+const HALF: u32 = 50;
+
 /// How many bytes of the words that ask for a list are said again: with the rest the row fits.
 const MOST_SAID: usize = 40;
 
@@ -140,6 +145,8 @@ pub struct Asker<'a> {
     pub rating: Option<u32>,
     /// The matches that are saved.
     pub saved: &'a SavedMatches,
+    /// Whether boards are told in words: then players are, too.
+    pub is_told: bool,
 }
 
 /// How far a rating is from the user's own; if that is not known, from the best there can be.
@@ -168,6 +175,20 @@ fn push_wanted(
         }
     }
     Ok(())
+}
+
+/// How many players words ask for, without the one of this name.
+pub fn count_players(directory: &Directory, words: &[u8], name: &[u8]) -> usize {
+    let wanted = Wanted::read(words);
+    let mut count = 0usize;
+    for place in 0..directory.len() {
+        if let Some(player) = directory.at(place) {
+            if wanted.includes(player) && player.name.as_slice() != name {
+                count = count.saturating_add(1);
+            }
+        }
+    }
+    count
 }
 
 /// Appends a number at the right of its columns, after a space at least.
@@ -229,6 +250,78 @@ fn append_row(player: &Player, is_saved: bool, text: &mut Vec<u8>) -> Result<(),
         text,
     )?;
     text.extend_from_slice(b"\n")
+}
+
+/// Appends that a player is rated so, in whole points: the nearest.
+fn append_rated(rating: u32, text: &mut Vec<u8>) -> Result<(), AllocError> {
+    text.extend_from_slice(b", rated ")?;
+    append_number(rating.saturating_add(HALF) / HUNDRED, text)
+}
+
+/// Appends how long ago a player typed, in words: nothing if it is less than an hour.
+fn append_idle_words(seconds: u64, text: &mut Vec<u8>) -> Result<(), AllocError> {
+    let (count, one, more): (u64, &[u8], &[u8]) = if seconds < 3600 {
+        return Ok(());
+    } else if seconds < 86_400 {
+        (seconds / 3600, b" hour", b" hours")
+    } else {
+        (seconds / 86_400, b" day", b" days")
+    };
+    text.extend_from_slice(b", idle for ")?;
+    append_number(count, text)?;
+    text.extend_from_slice(if count == 1 { one } else { more })
+}
+
+/// Appends a player in a sentence: name, rating, points played, what he does, how long idle, and whether a match is
+/// saved.
+fn append_sentence(player: &Player, is_saved: bool, text: &mut Vec<u8>) -> Result<(), AllocError> {
+    text.extend_from_slice(first(player.name.as_slice(), NAME_SHOWN))?;
+    append_rated(player.rating, text)?;
+    text.extend_from_slice(b", experience ")?;
+    append_number(player.experience, text)?;
+    text.extend_from_slice(b", ")?;
+    append_state(
+        first(player.opponent.as_slice(), OTHER_SHOWN),
+        first(player.watching.as_slice(), OTHER_SHOWN),
+        player.ready,
+        player.away,
+        text,
+    )?;
+    append_idle_words(player.idle, text)?;
+    if is_saved {
+        text.extend_from_slice(b", your match is saved")?;
+    }
+    text.extend_from_slice(b".\n")
+}
+
+/// Appends a sentence for each of these players.
+fn append_sentences(
+    found: &[Near],
+    directory: &Directory,
+    saved: &SavedMatches,
+    text: &mut Vec<u8>,
+) -> Result<(), AllocError> {
+    for (_, place) in found {
+        if let Some(player) = directory.at(*place) {
+            let is_saved = saved.with(player.name.as_slice()).is_some();
+            append_sentence(player, is_saved, text)?;
+        }
+    }
+    Ok(())
+}
+
+/// Appends these players: a table, or if boards are told in words a sentence for each.
+fn append_listed(
+    found: &[Near],
+    directory: &Directory,
+    asker: &Asker<'_>,
+    text: &mut Vec<u8>,
+) -> Result<(), AllocError> {
+    if asker.is_told {
+        append_sentences(found, directory, asker.saved, text)
+    } else {
+        append_rows(found, directory, asker.saved, text)
+    }
 }
 
 /// Appends a row for each of these players, and what a star says, if there is one.
@@ -311,16 +404,11 @@ pub fn append_players(
     }
     found.sort_by_key(|near| near.0)?;
     if wanted.all || found.len() <= MOST_LISTED {
-        append_rows(found.as_slice(), directory, asker.saved, text)?;
+        append_listed(found.as_slice(), directory, asker, text)?;
         append_count(found.len(), text)?;
         return text.extend_from_slice(b".\n");
     }
     append_order(asker.rating, text)?;
-    append_rows(
-        &found.as_slice()[..MOST_LISTED],
-        directory,
-        asker.saved,
-        text,
-    )?;
+    append_listed(&found.as_slice()[..MOST_LISTED], directory, asker, text)?;
     append_more(found.len() - MOST_LISTED, words, text)
 }

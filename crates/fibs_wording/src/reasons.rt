@@ -15,7 +15,7 @@ pub fn refusal_words(why: Refusal) -> &'static [u8] {
         Refusal::Offline => b"There is no connection: type open.",
         Refusal::NotReady => b"The server has not greeted you yet.",
         Refusal::ServerPlays => b"You don't play yourself: automove or greedy is on.",
-        Refusal::NoBoard => b"No board on which you play was shown.",
+        Refusal::NoBoard => b"You are in no match: invite NAME 5 begins one.",
         Refusal::Waiting => b"You have decided, and no new board has come yet.",
         Refusal::NotYours => b"There is nothing for you to decide on this board.",
         Refusal::WrongKind => b"That can't be done on this board: help says what can.",

@@ -19,6 +19,15 @@ const IN_FOLDER: &str = "/fibs/config";
 
 const IN_HOME: &str = "/.config";
 
+/// How a board is told in words that comes by itself.
+#[derive(Clone, Copy)]
+pub enum Telling {
+    /// Whole.
+    Long,
+    /// By what is new, after the board that was told before.
+    Short,
+}
+
 /// What a line of the file asks for.
 #[derive(Clone, Copy)]
 pub enum Setting<'a> {
@@ -28,22 +37,30 @@ pub enum Setting<'a> {
     Gag(&'a [u8]),
     /// Shouts are hidden, and who comes and goes.
     Quiet,
-    /// Boards are told in words.
-    Words,
+    /// Who comes and goes is shown, whatever the user does.
+    Arrivals,
+    /// Boards are told in words: each whole, or by what is new.
+    Words(Telling),
     /// No letters are bold, and nothing has a colour.
     NoColour,
     /// The bell never rings.
     NoBell,
+    /// No line is kept of a match that has ended.
+    NoRecord,
     /// The title of the window stays as it is.
     NoTitle,
     /// The standing order to roll is given on each connection.
     OrderRoll,
+    /// A connection that is lost is opened again.
+    Reconnect,
     /// The letters of the player's checkers and of the opponent's.
     Letters([u8; 2]),
     /// The player's home is above in a picture.
     HomeAbove,
     /// Whose numbers the places have.
     Numbers(Numbers),
+    /// Whether the newest board stands above what is said.
+    BoardAbove(bool),
 }
 
 /// Whose numbers a word says: `own` or `server`.
@@ -51,6 +68,15 @@ pub fn read_numbers(word: &[u8]) -> Option<Numbers> {
     match word {
         b"own" => Some(Numbers::TheOwn),
         b"server" => Some(Numbers::TheServers),
+        _ => None,
+    }
+}
+
+/// Whether a word says that the newest board stands above what is said, or scrolls with it below: `above` or `below`.
+pub fn read_place(word: &[u8]) -> Option<bool> {
+    match word {
+        b"above" => Some(true),
+        b"below" => Some(false),
         _ => None,
     }
 }
@@ -73,19 +99,24 @@ fn letters_in(own: &[u8], other: &[u8]) -> Option<[u8; 2]> {
     }
 }
 
-/// What a line of the file asks for: `quiet`, `gag NAME`, `words`, `no colour`, `no bell`, `no title`, `order roll`,
-/// `letters O X`, `home above`, `numbers own` or `numbers server`; `server HOST PORT NAME` and `log FILE` are for who
-/// starts the program. None for any other line.
+/// What a line of the file asks for: `quiet`, `arrivals`, `gag NAME`, `words`, `words short`, `no colour`, `no bell`,
+/// `no title`, `no record`, `order roll`, `reconnect`, `letters O X`, `home above`, `numbers own`, `numbers server`,
+/// `board above` or `board below`; `server HOST PORT NAME` and `log FILE` are for who starts the program. None for any
+/// other line.
 pub fn read_setting(line: &[u8]) -> Option<Setting<'_>> {
     let line = line.trim_ascii();
     match line {
         b"" => return Some(Setting::Nothing),
         b"quiet" => return Some(Setting::Quiet),
-        b"words" => return Some(Setting::Words),
+        b"arrivals" => return Some(Setting::Arrivals),
+        b"words" | b"words long" => return Some(Setting::Words(Telling::Long)),
+        b"words short" => return Some(Setting::Words(Telling::Short)),
         b"no colour" | b"no color" => return Some(Setting::NoColour),
         b"no bell" => return Some(Setting::NoBell),
         b"no title" => return Some(Setting::NoTitle),
+        b"no record" => return Some(Setting::NoRecord),
         b"order roll" => return Some(Setting::OrderRoll),
+        b"reconnect" => return Some(Setting::Reconnect),
         b"home above" => return Some(Setting::HomeAbove),
         _ => {}
     }
@@ -96,6 +127,7 @@ pub fn read_setting(line: &[u8]) -> Option<Setting<'_>> {
             Some(Setting::Letters(letters_in(own, other?)?))
         }
         (b"numbers", Some(word)) => Some(Setting::Numbers(read_numbers(word)?)),
+        (b"board", Some(word)) => Some(Setting::BoardAbove(read_place(word)?)),
         (b"server", Some(place)) if is_place(place) => Some(Setting::Nothing),
         (b"log", Some(_)) => Some(Setting::Nothing),
         _ if line.starts_with(b"#") => Some(Setting::Nothing),
@@ -121,7 +153,7 @@ pub struct Config {
 }
 
 /// What a variable says; empty if it is not there.
-fn said(rt: &HostRuntime, name: &str) -> Result<String, AllocError> {
+pub(crate) fn said(rt: &HostRuntime, name: &str) -> Result<String, AllocError> {
     match env::var(rt, name) {
         Ok(value) => Ok(value),
         Err(VarError::OutOfMemory) => Err(AllocError),
@@ -167,7 +199,7 @@ fn file_bytes(rt: &HostRuntime, path: &str) -> Result<Vec<u8>, io::Error> {
 }
 
 /// Whether a file can't be opened since it is not there, or since what its path names as a folder is none.
-fn is_not_there(kind: ErrorKind) -> bool {
+pub(crate) fn is_not_there(kind: ErrorKind) -> bool {
     kind == ErrorKind::NotFound || kind == ErrorKind::NotADirectory
 }
 

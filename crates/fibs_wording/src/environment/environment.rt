@@ -72,10 +72,26 @@ fn is_utf8(rt: &HostRuntime) -> bool {
 /// The kinds of terminals whose windows have a title that can be kept and put back: how their names begin.
 const TITLED: [&str; 4] = ["xterm", "screen", "tmux", "rxvt"];
 
-/// Whether the terminal's window has a title.
-fn has_title(rt: &HostRuntime) -> bool {
+/// The kinds of terminals whose lower rows can scroll while the upper ones stay: how their names begin.
+const SCROLLING: [&str; 12] = [
+    "xterm",
+    "screen",
+    "tmux",
+    "rxvt",
+    "linux",
+    "alacritty",
+    "kitty",
+    "foot",
+    "st-",
+    "konsole",
+    "wezterm",
+    "putty",
+];
+
+/// Whether the terminal is of one of these kinds.
+fn is_one_of(rt: &HostRuntime, kinds: &[&str]) -> bool {
     match env::var(rt, "TERM") {
-        Ok(kind) => TITLED
+        Ok(kind) => kinds
             .iter()
             .any(|begins| kind.as_str().starts_with(*begins)),
         Err(_) => false,
@@ -92,13 +108,17 @@ pub fn terminal_settings<'a>(
     let dumb = is(rt, "TERM", "dumb") || !is_set(rt, "TERM");
     Settings {
         columns: number(rt, "COLUMNS", COLUMNS),
+        rows: number(rt, "LINES", 0),
+        scrolls_below: is_one_of(rt, &SCROLLING),
+        above: None,
         colour: !dumb && !is_set(rt, "NO_COLOR"),
         bell: !is_set(rt, "FIBS_QUIET"),
-        title: has_title(rt) && !is_set(rt, "FIBS_QUIET"),
+        title: is_one_of(rt, &TITLED) && !is_set(rt, "FIBS_QUIET"),
         letters: None,
         is_turned: false,
         numbers: Numbers::TheOwn,
         words: is_set(rt, "FIBS_WORDS"),
+        is_short: false,
         utf8: is_utf8(rt),
         zone,
         host: host.as_bytes(),

@@ -8,6 +8,12 @@ use fibs_position::Numbers;
 pub struct Settings<'a> {
     /// How many columns a line may have.
     pub columns: usize,
+    /// How many rows it has; 0 if that is not known.
+    pub rows: usize,
+    /// Whether its lower rows can scroll while the upper ones stay.
+    pub scrolls_below: bool,
+    /// Whether the newest board stands above what is said, if the user has said so.
+    pub above: Option<bool>,
     /// Whether it shows bold letters.
     pub colour: bool,
     /// Whether the bell may ring.
@@ -22,6 +28,8 @@ pub struct Settings<'a> {
     pub numbers: Numbers,
     /// Whether a board is told in words, in place of its picture.
     pub words: bool,
+    /// Whether of a board in words only what is new is told, if it comes by itself.
+    pub is_short: bool,
     /// Whether it shows letters beyond ASCII, as UTF-8.
     pub utf8: bool,
     /// The clock of the place.
