@@ -1,8 +1,6 @@
 -- What is advised in a state, and how a terminal says it (the project's own).
-use Rattle.std.specs.Prelude.{◌≡◌, ◌≢◌, ◌++◌, ◌∷◌, ℕ, List, [], codes, take, length, nat_lt, if◌then◌else◌, Bool, true, false, Option, Some, None, IfSome, is_none, option_map}
-use Rattle.fibs_fields.specs.Board.{BoardFields}
-use Rattle.fibs_position.specs.Allowed.{allowed_of}
-use Rattle.fibs_position.specs.DecisionValue.{DecisionValue, accept, reject, decision_of}
+use Rattle.std.specs.Prelude.{◌≡◌, ◌++◌, ◌∷◌, ℕ, List, [], codes, take, length, nat_lt, if◌then◌else◌, Bool, true, false, Option, Some, None, IfSome, is_none, option_map}
+use Rattle.fibs_position.specs.DecisionValue.{decision_of}
 use Rattle.fibs_position.specs.NumbersOf.{counted}
 use Rattle.fibs_commands.specs.Commands.{command_of}
 use Rattle.fibs_commands.specs.PlainCommands.{automove_off, greedy_off}
@@ -10,46 +8,20 @@ use Rattle.fibs_position.specs.declared.decision.Decision.{Decision}
 use Rattle.fibs_position.specs.declared.decision.Decision.TheVariants as D
 use Rattle.fibs_position.specs.declared.direction.Direction.{Direction}
 use Rattle.fibs_position.specs.declared.numbers.Numbers.{Numbers}
-use Rattle.fibs_session.specs.History.Machine.{Talk, shown_now, unconfirmed_now, plain_refusal}
-use Rattle.fibs_session.specs.History.Words.{Ask}
-use Rattle.fibs_advice.specs.Offers.{OffersNow, is_taken, may_decide, first_way, hint_text}
-use Rattle.fibs_advice.specs.Standings.{comes_first, hides_offers, is_unsure, repeats, owes_answer}
-use Rattle.fibs_advice.specs.Rows.{answers, names_way_on, plain_in, rolls_alone, shows_offers, words_before, words_after}
+use Rattle.fibs_session.specs.History.Machine.{Talk, unconfirmed_now, plain_refusal}
+use Rattle.fibs_advice.specs.Offers.{OffersNow, may_decide, first_way, hint_text}
+use Rattle.fibs_advice.specs.Standings.{comes_first, hides_offers, is_unsure}
+use Rattle.fibs_advice.specs.Passing.{AreRenewed, may_answer}
+use Rattle.fibs_advice.specs.Sending.{MaySend}
+use Rattle.fibs_advice.specs.Rows.{answers, names_way_on, opens_again, plain_in, rolls_alone, shows_offers, words_before, words_after}
 use Rattle.fibs_advice.specs.declared.row.Row.{Row}
 use Rattle.fibs_advice.specs.declared.row.Row.TheVariants as R
 use Rattle.fibs_advice.specs.declared.standing.Standing.{Standing}
 use Rattle.fibs_advice.specs.declared.advised.Advice.{Advice}
 
--- an offer changes no board
-abbrev pub is_offer : Decision → Bool
-is_offer D.Double = true
-is_offer (D.Resign kind) = true
-is_offer d = false
-
--- the rules allow a decision on the board that is shown
-abbrev pub rules_allow : Option BoardFields → DecisionValue → Bool
-rules_allow None d = false
-rules_allow (Some b) d = is_none (allowed_of b d)
-
--- a decision that waits is another one
-abbrev pub IsAnother : Option Ask → DecisionValue → Type 0
-IsAnother asked d = IfSome asked (λ ask. ask.1 ≢ d)
-
--- a decision may go as it is: the client would refuse it, the rules allow it on the board that is shown, and it is not
--- the one that waits, unless the server has shown the board again on which that was made
-pub record MaySend (t : Talk) (standing : Standing) (d : DecisionValue) : Type 0 where
-  pub untaken : is_taken t d ≡ false
-  pub allowed : rules_allow (shown_now t) d ≡ true
-  pub another : repeats standing ≡ false → IsAnother (unconfirmed_now t) d
-
--- an offer of which texts alone tell is answered as it is: the client would refuse both answers
-pub record MayAnswer (t : Talk) (standing : Standing) : Type 0 where
-  pub owed : owes_answer standing ≡ true
-  pub accept : is_taken t accept ≡ false
-  pub reject : is_taken t reject ≡ false
-
 -- what is advised: what the client takes now is said, unless the state hides it, or one way of it, if it is not known
--- whether an offer is open; without `send` only what the client takes now, with `send` only what may go as it is
+-- whether an offer is open; without `send` only what goes to the server if it is typed: what the client takes now, what
+-- may be made in place of the decision that waits, an answer to an offer; with `send` only what may go as it is
 pub record Advises (t : Talk) (standing : Standing) (a : Advice) : Type 0 where
   pub offers : OffersNow t a.offers
   pub shown : hides_offers standing ≡ false → may_decide a.offers ≡ true → shows_offers a.row ≡ true
@@ -64,20 +36,19 @@ pub record Advises (t : Talk) (standing : Standing) (a : Advice) : Type 0 where
   pub greedy : a.greedy ≡ is_none (plain_refusal t greedy_off)
   pub send : IfSome a.send (λ d. MaySend t standing (decision_of d))
   pub other : IfSome a.other (λ d. MaySend t standing (decision_of d))
-  pub answer : answers a.row ≡ true → MayAnswer t standing
+  pub again : opens_again a.row ≡ true → AreRenewed t standing a.send a.other
+  pub answer : answers a.row ≡ true → may_answer t standing ≡ true
   -- the decision that waits
   pub asked : option_map decision_of a.asked ≡ option_map (λ ask. ask.1) (unconfirmed_now t)
 
--- a line that goes as it is: the command of a decision, in the numbers of the board
-abbrev pub line_text : Direction → Decision → List ℕ
-line_text direction d = codes "send " ++ command_of direction (decision_of d)
-
--- one such line, or two
-abbrev pub send_text : Direction → Option Decision → Option Decision → List ℕ
-send_text direction None None = []
-send_text direction (Some d) None = line_text direction d
-send_text direction None (Some d) = line_text direction d
-send_text direction (Some d) (Some e) = line_text direction d ++ (codes ", or " ++ line_text direction e)
+-- the command of a decision that is made in place of the one that waits, or those of two; by its numbers the user goes
+-- this way
+abbrev pub ways_text : Direction → Option Decision → Option Decision → List ℕ
+ways_text way None None = []
+ways_text way (Some d) None = command_of way (decision_of d)
+ways_text way None (Some d) = command_of way (decision_of d)
+ways_text way (Some d) (Some e) =
+    command_of way (decision_of d) ++ (codes ", or " ++ command_of way (decision_of e))
 
 -- the command of a decision in a row of its own, if there is one, and how it goes: as it is by `send`; by its numbers
 -- the user goes this way
@@ -150,16 +121,19 @@ beginning R.Refused who word = word
 beginning R.Waits who word = word
 beginning row who word = []
 
--- what a row names: decisions that the client takes, in the numbers that the user reads; lines that go as they are, in
--- those of the server; a player
+-- what a row names: decisions, in the numbers that the user reads; a line that goes as it is, in those of the server; a
+-- player
 abbrev pub named_in : Numbers → Row → List ℕ → List ℕ → Advice → List ℕ
 named_in numbers R.Offers opponent inviter a = hint_text numbers a.offers
 named_in numbers R.Resigns opponent inviter a = hint_text numbers a.offers
 named_in numbers R.Owes opponent inviter a = hint_text numbers a.offers
 named_in numbers R.ServerPlays opponent inviter a = toggles_text a.automove a.greedy ++ resumes_text opponent
-named_in numbers R.Declined opponent inviter a = send_text a.offers.direction a.send a.other
-named_in numbers R.Same opponent inviter a = send_text a.offers.direction a.send a.other
-named_in numbers R.Back opponent inviter a = send_text a.offers.direction a.send a.other
+named_in numbers R.Declined opponent inviter a =
+    ways_text (counted numbers a.offers.direction) a.send a.other
+named_in numbers R.Same opponent inviter a =
+    ways_text (counted numbers a.offers.direction) a.send a.other
+named_in numbers R.Back opponent inviter a =
+    ways_text (counted numbers a.offers.direction) a.send a.other
 named_in numbers R.Unsettled opponent inviter a =
     goes_on_text [] (counted numbers a.offers.direction) (first_taken a)
 named_in numbers R.Unanswered opponent inviter a =

@@ -1,10 +1,14 @@
 pub mod Advised
 pub mod BrokenRules
+pub mod Changes
+pub mod Hits
 pub mod Leads
 pub mod Listings
 pub mod Moved
 pub mod Offers
+pub mod Passing
 pub mod Rows
+pub mod Sending
 pub mod Situations
 pub mod Standings
 pub mod Trials

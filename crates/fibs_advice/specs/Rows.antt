@@ -4,13 +4,20 @@ use Rattle.fibs_commands.specs.PlainCommands.{PlainValue, board_again, join}
 use Rattle.fibs_advice.specs.declared.row.Row.{Row}
 use Rattle.fibs_advice.specs.declared.row.Row.TheVariants as R
 
--- it says how an offer is answered by a line that goes as it is
+-- it says how an offer is answered of which texts alone tell
 abbrev pub answers : Row → Bool
 answers R.Resigns = true
 answers R.Concedes = true
 answers R.Owes = true
 answers R.Unsettled = true
 answers row = false
+
+-- it says what may be decided in place of the decision that waits
+abbrev pub opens_again : Row → Bool
+opens_again R.Declined = true
+opens_again R.Same = true
+opens_again R.Back = true
+opens_again row = false
 
 -- it says what the client takes now
 abbrev pub shows_offers : Row → Bool
@@ -74,10 +81,10 @@ words_before R.NotLoggedIn = codes "Not logged in: wrong name or password? quit,
 words_before R.Undoubled = codes "Your turn: roll; the server refused a double in this game.\n"
 words_before R.Accepted = codes "Your turn: roll; your double is accepted.\n"
 words_before R.ServerPlays = codes "The server plays for you: "
-words_before R.Resigns = codes " offers to resign: send accept, or send reject.\n"
-words_before R.Concedes = codes " offers to resign: send accept, or send reject.\n"
-words_before R.Owes = codes " waits for your answer: send accept, or send reject.\n"
-words_before R.Unsettled = codes " may wait for your answer: send accept, or send reject.\n"
+words_before R.Resigns = codes " offers to resign: accept, or reject.\n"
+words_before R.Concedes = codes " offers to resign: accept, or reject.\n"
+words_before R.Owes = codes " waits for your answer: accept, or reject.\n"
+words_before R.Unsettled = codes " may wait for your answer: accept, or reject.\n"
 words_before R.Unanswered = codes " may still have to answer your offer.\n"
 words_before R.Doubles = codes " doubles: board, then accept, or reject.\n"
 words_before R.Turn = codes "It may be your turn: board shows the game.\n"
@@ -95,9 +102,9 @@ words_before R.Invited = codes "You are invited:"
 
 -- its words after what it names
 abbrev pub words_after : Row → List ℕ
-words_after R.Declined = codes "\n"
-words_after R.Same = codes "\n"
-words_after R.Back = codes "\n"
+words_after R.Declined = codes ".\n"
+words_after R.Same = codes ".\n"
+words_after R.Back = codes ".\n"
 words_after R.Invited = codes "\n"
 words_after R.Saved = codes "if you are invited.\n"
 words_after row = []

@@ -1,5 +1,5 @@
 -- What the user waits for (the project's own).
-use Rattle.std.specs.Prelude.{Bool, true, false}
+use Rattle.std.specs.Prelude.{◌||◌, Bool, true, false, if◌then◌else◌}
 use Rattle.fibs_advice.specs.declared.standing.Standing.{Standing}
 use Rattle.fibs_advice.specs.declared.standing.Standing.TheVariants as S
 
@@ -32,11 +32,26 @@ is_in_match S.Gone = false
 is_in_match S.Reopened = false
 is_in_match standing = true
 
+-- a game is on the table
+abbrev pub is_in_game : Standing → Bool
+is_in_game S.Ended = false
+is_in_game S.Next = false
+is_in_game S.Joined = false
+is_in_game standing = is_in_match standing
+
 -- an offer of the opponent is told by texts, or was just answered
 abbrev pub has_offer : Standing → Bool
 has_offer S.Answered = true
 has_offer S.Doubled = true
 has_offer standing = owes_answer standing
+
+-- the state after a decision was sent
+abbrev pub after_sent : Standing → Standing
+after_sent standing = if is_in_game standing then S.Asked else standing
+
+-- the state after an answer to an offer was sent past the client
+abbrev pub after_answer : Standing → Standing
+after_answer standing = if owes_answer standing then S.Answered else after_sent standing
 
 -- the state after an invitation has come to nothing: a match that was saved before it still is
 abbrev pub after_not_invited : Standing → Standing
@@ -64,6 +79,18 @@ sends S.Back is_offer = true
 sends S.Refused is_offer = is_offer
 sends S.Offered is_offer = is_offer
 sends standing is_offer = false
+
+-- the server has said no to the decision that waits, and another one may be made in its place: it is an offer, and was
+-- refused or declined; or the server has shown the board again on which it was made
+abbrev pub is_open_again : Standing → Bool → Bool
+is_open_again S.Same is_offer = true
+is_open_again S.Back is_offer = true
+is_open_again S.Refused is_offer = is_offer
+is_open_again standing is_offer = false
+
+-- the server has said something by which a decision may go out that the client refuses
+abbrev pub is_called : Standing → Bool
+is_called standing = owes_answer standing || is_open_again standing true
 
 -- what the client takes is not what the user waits for: there is no game, or its board is still to come, or an offer is
 -- before the opponent or was just answered, or may be open, or gives the turn away

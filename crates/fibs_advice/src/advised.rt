@@ -1,20 +1,22 @@
 //! What is advised in a state.
 ghost use Rattle.std.specs.Prelude.{◌≡◌, ◌≢◌, true, false, None, IfOk, IfSome, IsTrue, is_none};
-ghost use Rattle.fibs_session.specs.History.Machine.{Talk, shown_now, unconfirmed_now, plain_refusal};
+ghost use Rattle.fibs_session.specs.History.Machine.{Talk, shown_now, plain_refusal};
 ghost use Rattle.fibs_position.specs.DecisionValue.{decision_of};
 ghost use Rattle.fibs_commands.specs.PlainOf.{plain_value};
 ghost use Rattle.fibs_session.specs.Calls.Standing.{StandsAfter};
-ghost use Rattle.fibs_advice.specs.Advised.{Advises, IsAnother, MayAnswer, MaySend, is_offer, rules_allow};
-ghost use Rattle.fibs_advice.specs.Rows.{answers, is_of_game, names_way_on, plain_in, rolls_alone, shows_offers};
+ghost use Rattle.fibs_advice.specs.Advised.{Advises};
+ghost use Rattle.fibs_advice.specs.Passing.{AreRenewed, IsRenewed, is_an_offer, may_answer};
+ghost use Rattle.fibs_advice.specs.Sending.{MaySend, rules_allow};
+ghost use Rattle.fibs_advice.specs.Rows.{answers, is_of_game, names_way_on, opens_again, plain_in, rolls_alone, shows_offers};
 ghost use Rattle.fibs_advice.specs.Standings.{comes_first, hides_offers, is_unsure, sends};
 ghost use Rattle.fibs_advice.specs.Offers.{may_decide};
 
 use crate::offers::{Offers, is_taken, offered};
+use crate::passing::{goes_past, is_another, is_offer, may_answer};
 use crate::row::Row;
 use crate::situation::Situation;
 use crate::standing::Standing;
 use fibs_commands::Plain;
-use fibs_position::laws::decisions_are_their_values;
 use fibs_position::{Decision, GameBoard, Phase, Position};
 use fibs_session::{Client, Refusal};
 use std::alloc::{AllocError, Global};
@@ -38,6 +40,9 @@ pub struct Advice {
     pub asked: Option<Decision>,
 }
 
+/// Decisions by which a game goes on: none, one or two.
+type Ways = (Option<Decision>, Option<Decision>);
+
 /// What is known beside the conversation.
 #[derive(Clone, Copy)]
 pub struct Aside {
@@ -55,17 +60,6 @@ fn is_allowed(client: &Client, decision: &Decision) -> bool
     match client.game() {
         None => false,
         Some(game) => game.position().allows(decision).is_ok(),
-    }
-}
-
-/// Whether a decision is not the one that waits.
-fn is_another(client: &Client, decision: &Decision) -> bool
-    ensures { IsTrue result → (t : Talk) → StandsAfter client.now t →
-        IsAnother (unconfirmed_now t) (decision_of decision.now) }
-{
-    match client.waiting() {
-        None => true,
-        Some(asked) => !decisions_are_their_values(&asked.decision, decision),
     }
 }
 
@@ -102,15 +96,6 @@ fn is_row_taken(client: &Client, row: Row) -> bool
         .is_none_or(|plain| is_plain_taken(client, &plain))
 }
 
-/// Whether an offer of which texts alone tell is answered as it is.
-fn may_answer(client: &Client, standing: Standing) -> bool
-    ensures { IsTrue result → (t : Talk) → StandsAfter client.now t → MayAnswer t standing }
-{
-    standing.owes_answer()
-        && !is_taken(client, &Decision::Accept)
-        && !is_taken(client, &Decision::Reject)
-}
-
 /// Whether a row is what is to be said: what the client takes now is not left out.
 fn says_offers(standing: Standing, offers: &Offers, row: Row) -> bool
     ensures shown { IsTrue result →
@@ -123,29 +108,49 @@ fn says_offers(standing: Standing, offers: &Offers, row: Row) -> bool
             && (!standing.is_unsure() || row.names_way_on()))
 }
 
+/// Whether a decision goes past the client, if there is one.
+fn is_renewed(client: &Client, standing: Standing, way: Option<Decision>) -> bool
+    ensures { IsTrue result → (t : Talk) → StandsAfter client.now t → IsRenewed t standing way }
+{
+    way.is_none_or(|decision| goes_past(client, standing, &decision))
+}
+
+/// Whether each of these goes past the client.
+fn are_renewed(client: &Client, standing: Standing, ways: Ways) -> bool
+    ensures { IsTrue result → (t : Talk) → StandsAfter client.now t → AreRenewed t standing ways.0 ways.1 }
+{
+    is_renewed(client, standing, ways.0) && is_renewed(client, standing, ways.1)
+}
+
 /// Whether all that a row names may be typed.
-fn is_true(client: &Client, standing: Standing, offers: &Offers, row: Row) -> bool
+fn is_true(client: &Client, standing: Standing, offers: &Offers, ways: Ways, row: Row) -> bool
     ensures rolls { IsTrue result → rolls_alone row ≡ true → offers.now.roll ≡ true }
     ensures plain { IsTrue result → (t : Talk) → StandsAfter client.now t →
         IfSome (plain_in row) (λ p. plain_refusal t p ≡ None) }
-    ensures answer { IsTrue result → answers row ≡ true → (t : Talk) → StandsAfter client.now t → MayAnswer t standing }
+    ensures again { IsTrue result → opens_again row ≡ true → (t : Talk) → StandsAfter client.now t →
+        AreRenewed t standing ways.0 ways.1 }
+    ensures answer { IsTrue result → answers row ≡ true → (t : Talk) → StandsAfter client.now t →
+        may_answer t standing ≡ true }
 {
     (!row.rolls_alone() || offers.roll)
         && is_row_taken(client, row)
+        && (!row.opens_again() || are_renewed(client, standing, ways))
         && (!row.answers() || may_answer(client, standing))
 }
 
 /// A row, if it is true and leaves nothing out that the client takes now; else what the client takes.
-fn true_row(client: &Client, standing: Standing, offers: &Offers, row: Row) -> Row
+fn true_row(client: &Client, standing: Standing, offers: &Offers, ways: Ways, row: Row) -> Row
     ensures shown { hides_offers standing ≡ false → may_decide offers.now ≡ true → shows_offers result ≡ true }
     ensures named { is_unsure standing ≡ true → may_decide offers.now ≡ true → names_way_on result ≡ true }
     ensures rolls { rolls_alone result ≡ true → offers.now.roll ≡ true }
     ensures plain { (t : Talk) → StandsAfter client.now t →
         IfSome (plain_in result) (λ p. plain_refusal t p ≡ None) }
-    ensures answer { answers result ≡ true → (t : Talk) → StandsAfter client.now t → MayAnswer t standing }
+    ensures again { opens_again result ≡ true → (t : Talk) → StandsAfter client.now t →
+        AreRenewed t standing ways.0 ways.1 }
+    ensures answer { answers result ≡ true → (t : Talk) → StandsAfter client.now t → may_answer t standing ≡ true }
     ensures row { result ≢ Row.Offers → result ≡ row }
 {
-    if is_true(client, standing, offers, row) && says_offers(standing, offers, row) {
+    if is_true(client, standing, offers, ways, row) && says_offers(standing, offers, row) {
         row
     } else {
         Row::Offers
@@ -176,7 +181,7 @@ fn ways_on(
     client: &Client,
     game: &GameBoard,
     situation: &Situation,
-) -> Result<(Option<Decision>, Option<Decision>), AllocError> {
+) -> Result<Ways, AllocError> {
     let doubles = !situation.refuses_double() && situation.standing != Standing::Offered;
     match game.phase() {
         Phase::RollOrDouble if doubles => Ok((Some(Decision::Roll), Some(Decision::Double))),
@@ -187,17 +192,10 @@ fn ways_on(
     }
 }
 
-/// Whether a decision is an offer, which changes no board.
-fn is_offer(decision: &Decision) -> bool
-    ensures { result ≡ is_offer decision.now }
-{
-    matches!(decision, Decision::Double | Decision::Resign(_))
-}
-
 /// Whether a state asks for lines that go as they are, while a decision waits. A decision that was refused, and is no
 /// offer, was made on a board that is no longer the game's: that board is asked for first.
 fn sends(standing: Standing, waiting: &Decision) -> bool
-    ensures { result ≡ sends standing (is_offer waiting.now) }
+    ensures { result ≡ sends standing (is_an_offer (decision_of waiting.now)) }
 {
     match standing {
         Standing::Same | Standing::Back => true,
@@ -207,11 +205,7 @@ fn sends(standing: Standing, waiting: &Decision) -> bool
 }
 
 /// The decisions that are advised, before each of them is tested.
-fn ways(
-    alloc: Global,
-    client: &Client,
-    situation: &Situation,
-) -> Result<(Option<Decision>, Option<Decision>), AllocError> {
+fn ways(alloc: Global, client: &Client, situation: &Situation) -> Result<Ways, AllocError> {
     let (Some(asked), Some(game)) = (client.waiting(), client.game()) else {
         return Ok((None, None));
     };
@@ -311,9 +305,9 @@ fn row_in_game(client: &Client, situation: &Situation, offers: &Offers, has_way:
         Standing::Refused | Standing::Same => row_of_refused(client, standing, has_way),
         Standing::Back if has_way => Row::Back,
         Standing::Anew if client.waiting().is_none() => Row::Nothing,
-        Standing::Asked | Standing::Anew => row_of_waiting(client),
+        Standing::Asked | Standing::Anew | Standing::Taken => row_of_waiting(client),
         Standing::Due => row_of_turn(offers),
-        Standing::Answered => Row::Nothing,
+        Standing::Answered => Row::Waits,
         Standing::Continued | Standing::Fresh => row_of_continued(client, situation.is_due()),
         Standing::Playing => row_of_game(client),
         _ => Row::Offers,
@@ -390,8 +384,9 @@ fn row_of(
     }
 }
 
-/// What is advised: without `send` only what the client takes now; with `send` only what it would refuse and the rules
-/// allow, and not the decision that waits, unless the server has shown the board again on which that was made.
+/// What is advised: without `send` only what the client takes now, and what goes past it on the server's word; with
+/// `send` only what it would refuse and the rules allow, and not the decision that waits, unless the server has shown
+/// the board again on which that was made.
 ///
 /// Errors: if memory runs out.
 pub fn advised(
@@ -410,7 +405,7 @@ pub fn advised(
     let has_way = send.is_some() || other.is_some();
     let row = row_of(client, situation, aside, &offers, has_way);
     Ok(Advice {
-        row: true_row(client, standing, &offers, row),
+        row: true_row(client, standing, &offers, (send, other), row),
         offers,
         automove: is_plain_taken(client, &Plain::AutomoveOff),
         greedy: is_plain_taken(client, &Plain::GreedyOff),

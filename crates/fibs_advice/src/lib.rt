@@ -3,8 +3,11 @@
 #![tactic(auto)]
 
 pub mod advised;
+mod changes;
+pub mod hits;
 pub mod moved;
 pub mod offers;
+pub mod passing;
 pub mod plays;
 pub mod row;
 pub mod rules;
@@ -12,6 +15,5 @@ pub mod saying;
 pub mod situation;
 pub mod spelling;
 pub mod standing;
-pub mod told;
 pub mod trial;
 pub mod watched;

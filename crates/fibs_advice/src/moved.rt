@@ -36,7 +36,11 @@ const WORD: usize = 4;
 
 /// Appends the steps of a play as its command has them, each after a space.
 #[tactic(auto, unfolding(fibs_commands::specs::Commands::command_of))]
-fn append_steps(play: &Play, way: Direction, text: &mut Vec<u8>) -> Result<(), AllocError>
+pub(crate) fn append_steps(
+    play: &Play,
+    way: Direction,
+    text: &mut Vec<u8>,
+) -> Result<(), AllocError>
     ensures { OnOk result (text.new.items ≡ text.old.items ++ steps_text way (hops_of play.now)) }
 {
     let command = decision_text(&Decision::Move(*play), way);
@@ -99,15 +103,29 @@ fn is_step(word: &[u8]) -> bool {
     }
 }
 
+/// Whether a text names the places of a step.
+pub fn has_step(text: &[u8]) -> bool {
+    for word in text.split(|byte| *byte == b' ') {
+        if is_step(word) {
+            return true;
+        }
+    }
+    false
+}
+
+/// Whether a text speaks of moving.
+fn has_move(text: &[u8]) -> bool {
+    for word in text.split(|byte| *byte == b' ') {
+        if word.starts_with(b"move") {
+            return true;
+        }
+    }
+    false
+}
+
 /// Whether a text speaks of moving, and names the places of a step.
 pub fn names_steps(text: &[u8]) -> bool {
-    let mut moves = false;
-    let mut steps = false;
-    for word in text.split(|byte| *byte == b' ') {
-        moves = moves || word.starts_with(b"move");
-        steps = steps || is_step(word);
-    }
-    moves && steps
+    has_move(text) && has_step(text)
 }
 
 /// Appends the steps of a play in the user's own numbers, behind what was sent.

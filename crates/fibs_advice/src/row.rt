@@ -1,7 +1,7 @@
 //! Rows: what is said to who plays, and what they name.
 ghost use Rattle.std.specs.Prelude.{◌≡◌, option_map};
 ghost use Rattle.fibs_commands.specs.PlainOf.{plain_value};
-ghost use Rattle.fibs_advice.specs.Rows.{plain_in, answers, is_asked_for, names_way_on, rolls_alone, shows_offers, words_before, words_after};
+ghost use Rattle.fibs_advice.specs.Rows.{plain_in, answers, is_asked_for, names_way_on, opens_again, rolls_alone, shows_offers, words_before, words_after};
 
 use fibs_commands::Plain;
 
@@ -59,7 +59,7 @@ pub enum Row {
 }
 
 impl Row {
-    /// Whether it says how an offer is answered by a line that goes as it is.
+    /// Whether it says how an offer is answered of which texts alone tell.
     pub fn answers(self) -> bool
         ensures { result ≡ answers self }
     {
@@ -67,6 +67,13 @@ impl Row {
             self,
             Row::Resigns | Row::Concedes | Row::Owes | Row::Unsettled
         )
+    }
+
+    /// Whether it says what may be decided in place of the decision that waits.
+    pub(crate) fn opens_again(self) -> bool
+        ensures { result ≡ opens_again self }
+    {
+        matches!(self, Row::Declined | Row::Same | Row::Back)
     }
 
     /// The line that it names, if that has no argument and decides nothing.
@@ -131,9 +138,9 @@ impl Row {
             Row::Undoubled => b"Your turn: roll; the server refused a double in this game.\n",
             Row::Accepted => b"Your turn: roll; your double is accepted.\n",
             Row::ServerPlays => b"The server plays for you: ",
-            Row::Resigns | Row::Concedes => b" offers to resign: send accept, or send reject.\n",
-            Row::Owes => b" waits for your answer: send accept, or send reject.\n",
-            Row::Unsettled => b" may wait for your answer: send accept, or send reject.\n",
+            Row::Resigns | Row::Concedes => b" offers to resign: accept, or reject.\n",
+            Row::Owes => b" waits for your answer: accept, or reject.\n",
+            Row::Unsettled => b" may wait for your answer: accept, or reject.\n",
             Row::Unanswered => b" may still have to answer your offer.\n",
             Row::Doubles => b" doubles: board, then accept, or reject.\n",
             Row::Turn => b"It may be your turn: board shows the game.\n",
@@ -156,7 +163,8 @@ impl Row {
         ensures { result.now ≡ words_after self }
     {
         match self {
-            Row::Declined | Row::Same | Row::Back | Row::Invited => b"\n",
+            Row::Declined | Row::Same | Row::Back => b".\n",
+            Row::Invited => b"\n",
             Row::Saved => b"if you are invited.\n",
             _ => b"",
         }

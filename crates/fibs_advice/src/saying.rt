@@ -1,7 +1,9 @@
 //! How what is advised is said.
 ghost use Rattle.std.specs.Prelude.{◌≡◌, ◌++◌, OnOk, length, nat_lt, take};
+ghost use Rattle.fibs_commands.specs.Commands.{command_of};
+ghost use Rattle.fibs_position.specs.DecisionValue.{decision_of};
 ghost use Rattle.fibs_advice.specs.Rows.{words_before, words_after};
-ghost use Rattle.fibs_advice.specs.Advised.{advice_text, beginning, gap, goes_on_text, line_text, named_in, send_text, decision_word, invite_words, invited_text, opponent_text, resumes_text, saved_text, toggles_text};
+ghost use Rattle.fibs_advice.specs.Advised.{advice_text, beginning, gap, goes_on_text, named_in, ways_text, decision_word, invite_words, invited_text, opponent_text, resumes_text, saved_text, toggles_text};
 
 use crate::advised::Advice;
 use crate::offers::{append_offers, first_way};
@@ -10,35 +12,30 @@ use fibs_commands::decision_text;
 use fibs_position::{Decision, Direction, Numbers};
 use std::alloc::AllocError;
 
-/// Appends a decision as a line that goes as it is.
-fn append_line(
-    direction: Direction,
-    decision: Decision,
-    text: &mut Vec<u8>,
-) -> Result<(), AllocError>
-    ensures { OnOk result (text.new.items ≡ text.old.items ++ line_text direction decision) }
+/// Appends the command of a decision, by numbers by which the user goes this way.
+fn append_command(way: Direction, decision: Decision, text: &mut Vec<u8>) -> Result<(), AllocError>
+    ensures { OnOk result (text.new.items ≡ text.old.items ++ command_of way (decision_of decision)) }
 {
-    let command = decision_text(&decision, direction);
-    text.extend_from_slice(b"send ")?;
+    let command = decision_text(&decision, way);
     text.extend_from_slice(command.as_bytes())
 }
 
-/// Appends the lines that go as they are: one decision, or two.
-fn append_send(
-    direction: Direction,
+/// Appends what is made in place of a decision that waits: one decision, or two.
+fn append_ways(
+    way: Direction,
     send: Option<Decision>,
     other: Option<Decision>,
     text: &mut Vec<u8>,
 ) -> Result<(), AllocError>
-    ensures { OnOk result (text.new.items ≡ text.old.items ++ send_text direction send other) }
+    ensures { OnOk result (text.new.items ≡ text.old.items ++ ways_text way send other) }
 {
     match (send, other) {
         (None, None) => Ok(()),
-        (Some(one), None) | (None, Some(one)) => append_line(direction, one, text),
+        (Some(one), None) | (None, Some(one)) => append_command(way, one, text),
         (Some(one), Some(two)) => {
-            append_line(direction, one, text)?;
+            append_command(way, one, text)?;
             text.extend_from_slice(b", or ")?;
-            append_line(direction, two, text)
+            append_command(way, two, text)
         }
     }
 }
@@ -204,7 +201,7 @@ pub fn append_join(inviter: &[u8], text: &mut Vec<u8>) -> Result<(), AllocError>
     text.extend_from_slice(inviter)
 }
 
-/// Appends what a row names: in these numbers, but in the server's if it goes as it is.
+/// Appends what a row names: in these numbers, but in the server's if it goes as it is, by `send`.
 fn append_named(
     advice: &Advice,
     numbers: Numbers,
@@ -219,8 +216,8 @@ fn append_named(
     match advice.row {
         Row::Offers | Row::Resigns | Row::Owes => append_offers(&advice.offers, numbers, text),
         Row::ServerPlays => append_way_out(advice.automove, advice.greedy, opponent, text),
-        Row::Declined | Row::Same | Row::Back => append_send(
-            direction,
+        Row::Declined | Row::Same | Row::Back => append_ways(
+            numbers.way(direction),
             advice.send,
             advice.other,
             text,

@@ -1,15 +1,15 @@
 //! What the user waits for, of whom, and on what. Each part is in the box of what it is of: a connection, an opponent,
 //! a game, a turn, an invitation. When that ends its box is replaced by a new one.
-ghost use Rattle.std.specs.Prelude.{◌≡◌, ◌≢◌, ◌≤◌, ◌↔◌, ◌⊎◌, length, false, IsTrue};
+ghost use Rattle.std.specs.Prelude.{◌≡◌, ◌≢◌, ◌≤◌, ◌↔◌, ◌⊎◌, length, true, false, IsTrue};
 ghost use Rattle.arrayvec.specs.ArrayVec.{array_vec_len};
 ghost use Rattle.fibs_fields.specs.StoredBoard.{fields_of};
 ghost use Rattle.fibs_position.specs.GameOf.{game_of};
 ghost use Rattle.fibs_advice.specs.Situations.{IsNewOpponent, inviter_of, kept_of, met, new_game, new_turn, no_name, is_match_over, is_won, open_offer, opened_with, opponent_of};
-ghost use Rattle.fibs_advice.specs.Standings.{after_not_invited};
+ghost use Rattle.fibs_advice.specs.Standings.{after_not_invited, is_called};
 
 use crate::standing::{Shown, Standing};
-use crate::told::{Report, Told, read_told};
 use arrayvec::ArrayVec;
+use fibs_events::told::{Report, Told, read_told};
 use fibs_fields::boards::Board;
 use fibs_fields::boards::fields::{MATCH_LENGTH, OTHER_SCORE, OWN_SCORE, UNLIMITED};
 use fibs_fields::split::split;
@@ -357,6 +357,7 @@ impl Situation {
         ensures left { self.new.opponent.left ≡ Left.Nothing }
         ensures due { self.new.opponent.game.turn.is_due ≡ false }
         ensures asked { self.new.asked ≡ self.old.asked }
+        ensures once { is_called self.new.standing ≡ false }
     {
         self.opponent.left = Left::Nothing;
         self.opponent.game.turn.is_due = false;
@@ -379,6 +380,8 @@ impl Situation {
         ensures left { IsTrue result → self.new.opponent.left ≡ Left.Nothing }
         ensures due { IsTrue result → self.new.opponent.game.turn.is_due ≡ false }
         ensures asked { IsTrue result → self.new.asked ≡ BoardAsked.Nothing }
+        // It calls for no decision: only what the server says does.
+        ensures own { is_called self.new.standing ≡ true → self.new.standing ≡ self.old.standing }
     {
         if let Some(waiting) = decision_in(command) {
             self.waiting = waiting;
@@ -396,7 +399,9 @@ impl Situation {
     }
 
     /// The user has sent a line as it is.
-    pub fn hear_passed(&mut self, line: &[u8]) {
+    pub fn hear_passed(&mut self, line: &[u8])
+        ensures own { is_called self.new.standing ≡ true → self.new.standing ≡ self.old.standing }
+    {
         if is_answer(without_spaces(line)) {
             self.ask_before();
             self.standing = self.standing.after_answer();
@@ -406,8 +411,27 @@ impl Situation {
         }
     }
 
+    /// The user has sent a decision past the client, on the server's word: until that says something new no second one
+    /// is sent.
+    pub fn hear_on_word(&mut self)
+        ensures once { is_called self.new.standing ≡ false }
+        ensures left { self.new.opponent.left ≡ Left.Nothing }
+    {
+        self.ask_before();
+        let answers = self.standing.owes_answer();
+        if answers {
+            self.opponent.left = Left::Nothing;
+            self.standing = self.standing.after_answer();
+        } else {
+            self.end_turn();
+        }
+    }
+
     /// What was asked by `board` was asked before what comes now.
-    fn ask_before(&mut self) {
+    fn ask_before(&mut self)
+        ensures standing { self.new.standing ≡ self.old.standing }
+        ensures opponent { self.new.opponent ≡ self.old.opponent }
+    {
         if self.asked == BoardAsked::Now {
             self.asked = BoardAsked::Before;
         }

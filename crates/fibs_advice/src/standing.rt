@@ -1,9 +1,9 @@
 //! What the user waits for.
-ghost use Rattle.std.specs.Prelude.{◌≡◌};
+ghost use Rattle.std.specs.Prelude.{◌≡◌, false};
 ghost use Rattle.fibs_advice.specs.Situations.{after_another};
-ghost use Rattle.fibs_advice.specs.Standings.{after_not_invited, has_offer, hides_offers, is_in_match, is_unsure, owes_answer, repeats};
+ghost use Rattle.fibs_advice.specs.Standings.{after_answer, after_not_invited, after_sent, has_offer, hides_offers, is_called, is_in_game, is_in_match, is_open_again, is_unsure, owes_answer, repeats};
 
-use crate::told::Told;
+use fibs_events::told::Told;
 
 /// What the user waits for, by what the server has said. What the client knows is no part of it.
 #[derive(Clone, Copy, Debug, PartialEq, Eq)]
@@ -100,6 +100,18 @@ impl Standing {
         )
     }
 
+    /// Whether another decision may be made in place of the one that waits: that is an offer, and was refused or
+    /// declined; or the server has shown the board again on which it was made.
+    pub(crate) fn is_open_again(self, is_offer: bool) -> bool
+        ensures { result ≡ is_open_again self is_offer }
+    {
+        match self {
+            Standing::Same | Standing::Back => true,
+            Standing::Refused => is_offer,
+            _ => false,
+        }
+    }
+
     /// Whether it is not known if an offer is open that was open before.
     pub(crate) fn is_unsure(self) -> bool
         ensures { result ≡ is_unsure self }
@@ -148,7 +160,9 @@ impl Standing {
     }
 
     /// Whether a game is on the table.
-    fn is_in_game(self) -> bool {
+    fn is_in_game(self) -> bool
+        ensures { result ≡ is_in_game self }
+    {
         self.is_in_match() && !matches!(self, Standing::Ended | Standing::Next | Standing::Joined)
     }
 
@@ -332,12 +346,12 @@ impl Standing {
     }
 
     /// The state after the board on which an offer was made: it says nothing of the offer. If it was asked for after an
-    /// offer was answered, the game is as it was.
+    /// offer was answered or declined, the game is as it was.
     fn after_offer_stands(self, asked: bool) -> Standing {
         match self {
             Standing::Due => Standing::Same,
             Standing::Asked if asked => Standing::Offered,
-            Standing::Answered | Standing::Taken if asked => Standing::Same,
+            Standing::Answered | Standing::Continued | Standing::Taken if asked => Standing::Same,
             _ => self.after_old_board(),
         }
     }
@@ -346,7 +360,8 @@ impl Standing {
     fn after_stands(self, asked: bool) -> Standing {
         match self {
             Standing::Refused | Standing::Due => Standing::Same,
-            Standing::Asked | Standing::Answered | Standing::Taken if asked => Standing::Same,
+            Standing::Asked | Standing::Answered | Standing::Continued | Standing::Taken if asked =>
+                Standing::Same,
             _ => self.after_old_board(),
         }
     }
@@ -370,8 +385,10 @@ impl Standing {
         }
     }
 
-    /// The state after an answer was sent as it is.
-    pub fn after_answer(self) -> Standing {
+    /// The state after an answer to an offer was sent past the client.
+    pub(crate) fn after_answer(self) -> Standing
+        ensures { result ≡ after_answer self }
+    {
         if self.owes_answer() {
             Standing::Answered
         } else {
@@ -379,8 +396,10 @@ impl Standing {
         }
     }
 
-    /// The state after a decision was sent, by the client or as it is.
-    pub fn after_sent(self) -> Standing {
+    /// The state after a decision was sent, by the client or past it.
+    pub(crate) fn after_sent(self) -> Standing
+        ensures { result ≡ after_sent self }
+    {
         if self.is_in_game() {
             Standing::Asked
         } else {
@@ -400,7 +419,9 @@ impl Standing {
     }
 
     /// The state after the user took leave of the server: nothing more is said before the connection ends.
-    pub fn after_bye(self) -> Standing {
+    pub(crate) fn after_bye(self) -> Standing
+        ensures { is_called result ≡ false }
+    {
         if self.is_in_match() || self == Standing::Gone {
             Standing::Ended
         } else {

@@ -1,5 +1,6 @@
 //! A move that the user looks at before it is sent.
-ghost use Rattle.std.specs.Prelude.{◌≡◌, ◌↔◌, IfSome, IsTrue};
+ghost use Rattle.std.specs.Prelude.{◌≡◌, ◌↔◌, ◌++◌, IfSome, IsTrue, OnOk};
+ghost use Rattle.fibs_fields.specs.Board.{BoardFields};
 ghost use Rattle.fibs_commands.specs.Commands.{command_of};
 ghost use Rattle.fibs_commands.specs.TextOf.{text_of};
 ghost use Rattle.fibs_position.specs.DecisionValue.{IsDecision, move};
@@ -9,10 +10,12 @@ ghost use Rattle.fibs_position.specs.NumbersOf.{counted};
 ghost use Rattle.fibs_rules.specs.PlayValue.{hops_of};
 ghost use Rattle.fibs_advice.specs.Leads.{LeadsTo};
 
+use crate::changes::append_changes;
 use fibs_commands::{CommandText, decision_text};
 use fibs_fields::boards::laws::fields_tell_boards;
 use fibs_position::laws::decisions_are_valid;
 use fibs_position::{Decision, GameBoard, Numbers, Play, effect};
+use std::alloc::{AllocError, Global};
 
 /// What stands in place of dice for a decision that takes none.
 const NO_DICE: [u8; 2] = [0, 0];
@@ -27,7 +30,7 @@ pub struct Trial {
 }
 
 impl Trial {
-    ghost use Rattle.fibs_advice.specs.Trials.{tried, tried_on};
+    ghost use Rattle.fibs_advice.specs.Trials.{changes_of, tried, tried_on};
 
     /// The board that a move leads to. None if the board has no turn for the user, no dice, or no checker where the
     /// move takes one: what else the rules ask is not looked at.
@@ -70,6 +73,26 @@ impl Trial {
             &Decision::Move(self.play),
             numbers.way(self.before.direction()),
         )
+    }
+
+    /// Appends what the move changes, in words, by these numbers: how many of the user's checkers then are where there
+    /// were more or fewer, whom it hits, how far he then has to go, and which of his checkers stand alone.
+    ///
+    /// Errors: if memory runs out.
+    pub fn append_changes(
+        &self,
+        alloc: Global,
+        numbers: Numbers,
+        text: &mut Vec<u8>,
+    ) -> Result<(), AllocError>
+        ensures { OnOk result ((b : BoardFields) × LeadsTo (tried_on self.now) (tried self.now) b
+            × (text.new.items ≡ text.old.items ++ changes_of numbers self.now b)) }
+    {
+        let way = numbers.way(self.before.direction());
+        let name = self.before.board().opponent().bytes();
+        let led = self.after();
+        let (before, after) = (self.before.position(), led.position());
+        append_changes(alloc, way, name, before, &self.play, after, text)
     }
 
     /// Whether a board is the one on which the move was tried.

@@ -1,6 +1,6 @@
 //! What a text of the server says of a game that the user watches.
 
-use crate::told::{Told, read_told};
+use fibs_events::told::{Told, read_told};
 use fibs_fields::trailing_spaces::without_spaces;
 
 /// How the server begins to say that a player is watched.

@@ -110,8 +110,9 @@ fn split_places(text: &[u8]) -> (&[u8], Option<&[u8]>) {
     }
 }
 
-/// Pushes the steps of a word, if it is not empty.
+/// Pushes the steps of a word, if it is not empty. A `*` at its end says nothing.
 fn push_word(word: &[u8], direction: Direction, play: &mut Play) -> Option<()> {
+    let word = without_star(word);
     if word.is_empty() {
         return Some(());
     }
