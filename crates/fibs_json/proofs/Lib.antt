@@ -1,3 +1,4 @@
+pub mod EventLemmas
 pub mod ObjectLemmas
 pub mod TellingLemmas
 pub mod ToldLemmas

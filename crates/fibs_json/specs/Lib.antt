@@ -8,3 +8,5 @@ pub mod Plays
 pub mod Told
 -- What only private functions and proofs say.
 pub mod Parts
+pub mod Events
+pub mod Eventful

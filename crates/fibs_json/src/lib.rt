@@ -3,7 +3,9 @@
 
 mod boards;
 mod columns;
+pub mod eventful;
 mod fields;
+mod happened;
 pub mod laws;
 pub mod line;
 mod members;

@@ -88,7 +88,7 @@ fn append_command(play: &Play, direction: Direction, text: &mut Vec<u8>) -> Resu
 }
 
 /// Appends the member of a play's steps.
-fn append_steps_of(play: &Play, text: &mut Vec<u8>) -> Result<(), AllocError>
+pub(crate) fn append_steps_of(play: &Play, text: &mut Vec<u8>) -> Result<(), AllocError>
     ensures { OnOk result (text.new.items
         ≡ text.old.items ++ more_value (codes "steps") (array_of step_text (hops_of play.now))) }
 {

@@ -72,7 +72,7 @@ impl LinePrinter for Objects {
 }
 
 /// Appends how many bytes follow the last line end, if some do.
-fn append_unfinished(held: usize, text: &mut Vec<u8>) -> Result<(), AllocError>
+pub(crate) fn append_unfinished(held: usize, text: &mut Vec<u8>) -> Result<(), AllocError>
     ensures { OnOk result (text.new.items ≡ text.old.items ++ unfinished_object held) }
 {
     if held == 0 {
