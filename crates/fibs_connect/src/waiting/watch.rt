@@ -1,12 +1,13 @@
 //! Which comes first, by the descriptors of what is typed and of the server.
 
-use crate::watch::{First, Watch};
+use crate::watch::{First, Patience, Watch};
 use mio::unix::SourceFd;
 use mio::{Events, Interest, Poll, Token};
 use std::alloc::Global;
 use std::io;
 use std::net::Net;
 use std::os::fd::{AsRawFd, RawFd};
+use std::time::Duration;
 
 /// The token of what is typed.
 const TYPED: Token = Token(0);
@@ -50,8 +51,9 @@ impl<'a> PollWatch<'a> {
         })
     }
 
-    /// Waits for an event. An event tells of a change, so each wait asks anew for what is ready already.
-    fn wait(&mut self) -> io::Result<Option<First>> {
+    /// Waits for an event, so long at most if that is given. An event tells of a change, so each wait asks anew for
+    /// what is ready already.
+    fn wait(&mut self, time: Option<Duration>) -> io::Result<Option<First>> {
         let registry = self.poll.registry();
         registry.reregister(&mut SourceFd(&self.typed), TYPED, Interest::READABLE)?;
         registry.reregister(
@@ -59,7 +61,7 @@ impl<'a> PollWatch<'a> {
             HEARD,
             Interest::READABLE,
         )?;
-        self.poll.poll(&mut self.events, None)?;
+        self.poll.poll(&mut self.events, time)?;
         let mut first = None;
         for event in &self.events {
             if event.token() == TYPED {
@@ -74,12 +76,21 @@ impl<'a> PollWatch<'a> {
 impl Watch for PollWatch<'_> {
     fn first(&mut self) -> First {
         for _ in 0..u64::MAX {
-            match self.wait() {
+            match self.wait(None) {
                 Ok(None) => {}
                 Ok(Some(first)) => return first,
                 Err(_) => return First::Typed,
             }
         }
         First::Typed
+    }
+}
+
+impl Patience for PollWatch<'_> {
+    fn first_within(&mut self, time: Duration) -> Option<First> {
+        match self.wait(Some(time)) {
+            Ok(first) => first,
+            Err(_) => Some(First::Typed),
+        }
     }
 }
