@@ -3,11 +3,11 @@ use Rattle.std.proofs.Common.{◌≡◌, [], List, ℕ, Option, Result, Ok, Err,
 use Rattle.std.specs.Prelude.{OnOk}
 use Rattle.std.specs.Io.KnownBytes.{Appends, Keeps}
 use Rattle.std.proofs.KnownBytes.{Appends-kept, Appends-nil}
-use Rattle.fibs_position.specs.declared.numbers.Numbers.{Numbers}
 use Rattle.fibs_session.specs.Calls.Standing.{ClientValue}
+use Rattle.fibs_wording.specs.declared.environment.settings.Settings.{Settings}
 use Rattle.fibs_terminal.specs.declared.memory.Memory.{Memory}
 use Rattle.fibs_terminal.specs.Grown.{Grown}
-use Rattle.fibs_terminal.specs.Resting.{SaysAdvice, ShowsAdvice}
+use Rattle.fibs_terminal.specs.Resting.{Rests, ShowsAdvice}
 
 -- what holds in any case holds of a success
 pub on_any_ok : {T E P : Type 0} (r : Result T E) → P → OnOk r P
@@ -23,8 +23,8 @@ pub grown_then_kept : (a b c : Option (List ℕ)) (text : List ℕ) → Appends 
 grown_then_kept a b c text p k = (text, Appends-kept a b c text p k)
 
 -- what is said is shown
-pub advice_shown : (client : ClientValue) (numbers : Numbers) (m : Memory) (a b c : Option (List ℕ))
-    (text written : List ℕ) → SaysAdvice client numbers m [] text → written ≡ text → Appends a b written → Keeps b c
-    → ShowsAdvice client numbers m a c
-advice_shown client numbers m a b c text written said same p k =
+pub advice_shown : (client : ClientValue) (s : Settings) (m : Memory) (a b c : Option (List ℕ))
+    (text written : List ℕ) → Rests client s m [] text → written ≡ text → Appends a b written → Keeps b c
+    → ShowsAdvice client s m a c
+advice_shown client s m a b c text written said same p k =
     (text, said, subst (Appends a c) same (Appends-kept a b c written p k))

@@ -1,6 +1,10 @@
--- Why what the eye sees tells a board, what was written is kept, `go` sends the move that `try` showed, and a play is
--- found if there is one.
+-- Why what the eye sees tells a board, what was written is kept, `go` sends the move that `try` showed, a decision goes
+-- past the client only on the server's word, and who would leave a match is asked once.
 pub mod GrownLemmas
+pub mod AboveLemmas
 pub mod DrawingLemmas
+pub mod SentLemmas
+pub mod TellingLemmas
 pub mod TryingLemmas
-mod StoryLemmas
+pub mod SendingLemmas
+pub mod LeavingLemmas

@@ -1,25 +1,26 @@
 -- The move that `go` sends is the one that `try` showed.
-use Rattle.std.proofs.Common.{◌≡◌, ◌≤◌, ◌++◌, ℕ, List, Option, Some, true, false, length, append_assoc, codes, refl, sym, ap, ◌∙◌, inl, arith}
+use Rattle.std.proofs.Common.{◌≡◌, ◌≤◌, ◌++◌, ℕ, List, Option, Some, Result, Ok, Err, IfOk, true, false, length, map, append_assoc, codes, refl, sym, ap, ◌∙◌, inl, arith}
 use Rattle.std.proofs.lemmas.Bool.{false≢true}
 use Rattle.fibs_fields.specs.Board.{BoardFields}
 use Rattle.fibs_position.specs.DecisionValue.{IsDecision}
 use Rattle.fibs_position.specs.DirectionOf.{direction_of}
 use Rattle.fibs_position.specs.declared.direction.Direction.{Direction}
 use Rattle.fibs_position.specs.declared.numbers.Numbers.{Numbers}
-use Rattle.fibs_position.specs.declared.numbers.Numbers.TheVariants.{TheServers}
 use Rattle.fibs_commands.specs.CommandLaws.{ReadCommandIsExact}
 use Rattle.fibs_commands.specs.CommandReading.{read_command, decision_in, turn_in}
 use Rattle.fibs_commands.specs.PlainReading.{read_plain, plain_in, alone_in, saying_in, letter_in}
 use Rattle.fibs_session.specs.History.Machine.{Talk, shown_now}
-use Rattle.fibs_session.specs.Typing.{IsMeant, typed_as, typed_by, typed_in, is_command, order_in, shown_direction, way_now}
+use Rattle.fibs_session.specs.Calls.Standing.{ClientValue, StandsAfter}
+use Rattle.fibs_session.specs.Typing.{typed_as, typed_by, typed_in, is_command, order_in, shown_direction, way_now}
 use Rattle.fibs_wording.specs.declared.environment.settings.Settings.{Settings}
-use Rattle.fibs_terminal.specs.Asking.{GoesOnAs}
-use Rattle.fibs_terminal.specs.Drawings.{Draws, TellsBoard, is_plain, is_worded}
+use Rattle.fibs_terminal.specs.Drawings.{Draws, is_plain}
+use Rattle.fibs_connect.specs.declared.wish.Wish.{Wish}
 use Rattle.fibs_connect.specs.declared.wish.Wish.TheVariants.{Say}
 use Rattle.fibs_advice.specs.Leads.{LeadsTo}
-use Rattle.fibs_advice.specs.Trials.{tried, tried_on}
+use Rattle.fibs_advice.specs.Trials.{changes_of, tried, tried_on}
+use Rattle.fibs_wording.specs.Broken.{spaced}
 use Rattle.fibs_advice.specs.declared.trial.Trial.{Trial}
-use Rattle.fibs_terminal.specs.Trying.{AddsTrial, IsCommandOf, IsTriedNow, SendsTried, ShowsTrial, command_by, go_row, tried_command}
+use Rattle.fibs_terminal.specs.Trying.{DrawsTrial, IsCommandOf, IsTriedNow, SendsTried, ShowsTrial, TellsTrial, command_by, go_row, tried_command}
 
 -- what is appended in two parts is appended whole
 joined : (before mid after part row : List ℕ) → mid ≡ before ++ part → after ≡ mid ++ row
@@ -27,23 +28,31 @@ joined : (before mid after part row : List ℕ) → mid ≡ before ++ part → a
 joined before mid after part row first second =
     second ∙ ap (λ m. m ++ row) first ∙ append_assoc before part row
 
--- the board to which a move leads is shown, and then how it is sent
-adds : (Shows : BoardFields → List ℕ → Type 0) (numbers : Numbers) (x : Trial) (b : BoardFields)
-    (before mid after : List ℕ) → LeadsTo (tried_on x) (tried x) b → (t : List ℕ) × Shows b t × (mid ≡ before ++ t)
-    → after ≡ mid ++ go_row (command_by numbers x) → AddsTrial Shows numbers x before after
-adds Shows numbers x b before mid after leads drawn row =
-    (b, leads, (drawn.0, drawn.1, joined before mid after drawn.0 (go_row (command_by numbers x)) drawn.2 row))
+-- the board to which a move leads is drawn, and then how it is sent
+pub trial_drawn : (s : Settings) (x : Trial) (b : BoardFields) (before mid after : List ℕ)
+    → LeadsTo (tried_on x) (tried x) b → (t : List ℕ) × Draws s false (is_plain s) b t × (mid ≡ before ++ t)
+    → after ≡ mid ++ go_row (command_by s.numbers x) → DrawsTrial s x before after
+trial_drawn s x b before mid after leads drawn row =
+    (b, leads, (drawn.0, drawn.1, joined before mid after drawn.0 (go_row (command_by s.numbers x)) drawn.2 row))
 
--- the same as a picture, or in words
-pub trial_shown : (s : Settings) (x : Trial) (b : BoardFields) (before mid after : List ℕ)
-    → LeadsTo (tried_on x) (tried x) b
-    → (s.words ≡ false → (t : List ℕ) × Draws s false (is_plain s) b t × (mid ≡ before ++ t))
-    → (s.numbers ≡ TheServers → is_worded s ≡ true → (t : List ℕ) × TellsBoard b t × (mid ≡ before ++ t))
-    → after ≡ mid ++ go_row (command_by s.numbers x) → ShowsTrial s x before after
-trial_shown s x b before mid after leads plain worded row = record {
-  drawn = λ is. adds (Draws s false (is_plain s)) s.numbers x b before mid after leads (plain is) row;
-  told = λ its is. adds TellsBoard s.numbers x b before mid after leads (worded its is) row;
-}
+-- or what the move changes is told, and then how it is sent
+pub trial_told : (numbers : Numbers) (x : Trial) (before mid whole after : List ℕ)
+    → (b : BoardFields) × LeadsTo (tried_on x) (tried x) b × (mid ≡ before ++ changes_of numbers x b)
+    → whole ≡ mid ++ go_row (command_by numbers x) → map spaced after ≡ map spaced whole
+    → TellsTrial numbers x before after
+trial_told numbers x before mid whole after told row broken = (
+  told.0,
+  told.1,
+  broken
+      ∙ ap (map spaced)
+      (joined before mid whole (changes_of numbers x told.0) (go_row (command_by numbers x)) told.2 row),
+)
+
+-- it is shown the one way or the other
+pub trial_shown : (s : Settings) (x : Trial) (before after : List ℕ)
+    → (s.words ≡ false → DrawsTrial s x before after) → (s.words ≡ true → TellsTrial s.numbers x before after)
+    → ShowsTrial s x before after
+trial_shown s x before after drawn told = record { drawn = drawn; told = told }
 
 -- a command has room in a line
 pub short : (a b : List ℕ) → a ≡ b → length b ≤ 512 → length a ≤ 4098
@@ -79,16 +88,15 @@ pub never_go : (numbers : Numbers) (t : Talk) (line : List ℕ) → line ≡ cod
 never_go numbers t line same known =
     false≢true (sym (known ∙ ap (λ text. is_command (typed_by numbers t text)) same ∙ go_is_none (way_now numbers t)))
 
+-- what never is asks for nothing
+pub never_goes : {E : Type 0} (result : Result Wish E) (P : Wish → Talk → Type 0) (client : ClientValue)
+    → ((t : Talk) → StandsAfter client t → ⊥)
+    → IfOk result (λ wish. (t : Talk) → StandsAfter client t → P wish t)
+never_goes (Ok wish) P client never = λ t stands. absurd (never t stands)
+never_goes (Err why) P client never = tt
+
 -- what is a command by these numbers is not a line that is none
 pub never_known : (numbers : Numbers) (t : Talk) (line text : List ℕ) → text ≡ line
     → true ≡ is_command (typed_by numbers t text) → is_command (typed_by numbers t line) ≡ false → ⊥
 never_known numbers t line text same known unknown =
     false≢true (sym (known ∙ ap (λ x. is_command (typed_by numbers t x)) same ∙ unknown))
-
--- a line that is a command goes on as the one that the user means
-pub goes_on : (numbers : Numbers) (t : Talk) (before after : List ℕ) → IsMeant numbers t before after
-    → is_command (typed_by numbers t before) ≡ true → GoesOnAs numbers t before after Say
-goes_on numbers t before after meant known = record {
-  stays = meant.stays;
-  means = λ some short. (meant.means known, refl);
-}

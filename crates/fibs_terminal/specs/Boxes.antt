@@ -2,12 +2,16 @@
 use Rattle.std.specs.Prelude.{◌≡◌, [], false, None}
 use Rattle.std.specs.declared.time.Duration.{Duration}
 use Rattle.fibs_messages.specs.Directory.{IsDirectory}
+use Rattle.fibs_advice.specs.declared.passing.Passing.TheVariants.{Asks}
 use Rattle.fibs_advice.specs.Listings.{all_plays}
 use Rattle.fibs_advice.specs.Situations.{opened_with}
 use Rattle.fibs_advice.specs.Situations as Situations
+use Rattle.fibs_terminal.specs.Greetings.{new_greeting}
 use Rattle.fibs_terminal.specs.Tables.{IsNewTable, kept_table}
 use Rattle.fibs_terminal.specs.declared.company.Company.{Company}
 use Rattle.fibs_terminal.specs.declared.drawing.watching.Watching.{Watching}
+use Rattle.fibs_terminal.specs.declared.drawing.watching.Wanted.{Wanted}
+use Rattle.fibs_terminal.specs.declared.drawing.watching.Wanted.TheVariants as W
 use Rattle.fibs_terminal.specs.declared.looking.Looking.{Looking}
 use Rattle.fibs_terminal.specs.declared.memory.Connection.{Connection}
 use Rattle.fibs_terminal.specs.declared.memory.Kept.{Kept}
@@ -21,20 +25,32 @@ pub record IsQuiet (a : Advising) : Type 0 where
   pub inquired : a.inquired ≡ false
   pub last : a.said_last.items ≡ []
 
--- nobody is listed, and no list of saved matches is coming
+-- nobody is listed, nobody has talked with the user, and no list of saved matches is coming
 pub record IsEmptyCompany (c : Company) : Type 0 where
   pub listed : IsDirectory [] c.listed
   pub lists : c.lists ≡ false
+  pub spoken : c.spoken.items ≡ []
 
 -- no list of players is coming
 pub record IsEmptyList (l : PlayerList) : Type 0 where
   pub asked : l.asked ≡ A.Nothing
   pub count : l.count ≡ 0
   pub last : l.last.items ≡ []
+  pub name : l.name.items ≡ []
+
+-- of a game that begins to be watched a board is wanted if, and only if, the user has asked to watch one
+abbrev pub wanted_at_begin : Wanted → Wanted
+wanted_at_begin W.Nothing = W.Nothing
+wanted_at_begin W.IfWatched = W.Board
+wanted_at_begin W.Board = W.Board
 
 -- no game is watched
 abbrev pub nothing_watched : Watching
-nothing_watched = record { heard = None; drawn = None; is_ending = false }
+nothing_watched = record { heard = None; drawn = None; told = None; is_ending = false; wanted = W.Nothing }
+
+-- a game that the server says the user watches: a board of it is to be asked for only if he has asked to watch
+abbrev pub begun_watching : Watching → Watching
+begun_watching w = record nothing_watched { wanted = wanted_at_begin w.wanted }
 
 -- nothing was shown on a connection
 pub record IsFresh (c : Connection) : Type 0 where
@@ -42,8 +58,12 @@ pub record IsFresh (c : Connection) : Type 0 where
   pub watching : c.watching ≡ nothing_watched
   pub company : IsEmptyCompany c.company
   pub list : IsEmptyList c.list
+  pub greeting : c.greeting ≡ new_greeting
   pub said : c.said.items ≡ []
   pub rule : c.rule.items ≡ []
+  pub passing : c.passing ≡ Asks
+  pub direction : c.direction ≡ None
+  pub moves : c.lists_moves ≡ false
 
 -- of what the user looks at, the move that was tried: it is sent only on the board on which that was done
 abbrev pub kept_looking : Looking → Looking

@@ -1,16 +1,18 @@
 -- How a terminal draws a board, or tells it (the project's own).
-use Rattle.std.specs.Prelude.{◌≡◌, ◌≤◌, ◌&&◌, ℕ, List, [], ◌∷◌, Bool, Option, Some, None, not, nat_le, is_none, slice_index, if◌then◌else◌}
+use Rattle.std.specs.Prelude.{◌≡◌, ◌≤◌, ◌&&◌, ℕ, List, [], ◌∷◌, Bool, Option, Some, None, false, not, nat_le, is_none, slice_index, if◌then◌else◌}
 use Rattle.std.specs.List.{flat_map, AllByRecursion}
 use Rattle.fibs_fields.specs.Board.{BoardFields}
 use Rattle.fibs_position.specs.GoodBoard.{IsGood}
 use Rattle.fibs_position.specs.PositionValue.{position_of}
 use Rattle.fibs_picture.specs.Fits.{Fits, ended}
-use Rattle.fibs_picture.specs.InWords.Words.{words}
+use Rattle.fibs_picture.specs.InWords.Rows.{IsBroken, words}
+use Rattle.fibs_picture.specs.InWords.Tellings.{rows_before}
 use Rattle.fibs_picture.specs.Look.{are_letters}
 use Rattle.fibs_picture.specs.Marks.{seen}
 use Rattle.fibs_picture.specs.Tells.{IsSeen, SameOnScreen, SameDeed}
 use Rattle.fibs_picture.specs.Told.{SameToTheEye}
 use Rattle.fibs_picture.specs.Whole.{written_picture}
+use Rattle.fibs_picture.specs.declared.in_words.told.Told.{Told}
 use Rattle.fibs_picture.specs.declared.look.Look.{Look}
 use Rattle.fibs_wording.specs.declared.environment.settings.Settings.{Settings}
 
@@ -59,19 +61,15 @@ DrawingsFit = (s : Settings) (watched wanted : Bool) (b : BoardFields) (t : List
 
 -- ---- words
 
--- the terminal has room for each row of a board in words
-abbrev pub is_wide : ℕ → Bool
-is_wide columns = nat_le 200 columns
+-- the board after which another one is told, if the user has what is new told, and not the whole board
+abbrev pub told_before : Settings → Bool → Option Told → Option Told
+told_before s whole last = if s.is_short && not whole then last else None
 
--- the terminal takes the words as they are
-abbrev pub is_worded : Settings → Bool
-is_worded s = s.words && is_wide s.columns
+-- the board in words, in the user's numbers and after what was told before it, in rows that have room
+abbrev pub TellsBoard : Settings → Option Told → BoardFields → List ℕ → Type 0
+TellsBoard s before b text = IsBroken s.columns (words (rows_before before) false s.numbers b) text
 
--- the board in words
-abbrev pub TellsBoard : BoardFields → List ℕ → Type 0
-TellsBoard b text = text ≡ words b
-
--- boards of the same words are the same to the eye
+-- boards of the same words after the same ones before are the same to the eye
 abbrev pub TellingsTell : Type 0
-TellingsTell = (a b : BoardFields) (text : List ℕ) → IsGood a → IsGood b → TellsBoard a text → TellsBoard b text
-    → SameToTheEye a b
+TellingsTell = (s : Settings) (before : Option Told) (a b : BoardFields) (text : List ℕ) → IsGood a → IsGood b
+    → TellsBoard s before a text → TellsBoard s before b text → SameToTheEye s.numbers a b

@@ -1,12 +1,23 @@
 -- What a terminal shows, says and does with a typed line, and the game so far.
+pub mod Above
+pub mod Again
 pub mod Asking
 pub mod Boxes
+pub mod Ended
+pub mod Endings
+pub mod Greetings
+pub mod Leaving
+pub mod LeftOut
 pub mod Grown
+pub mod HitsTold
 pub mod Resting
+pub mod Sending
+pub mod Sent
 pub mod Tables
+pub mod Talking
+pub mod Tellings
 pub mod TitleWords
+pub mod Turns
 pub mod Trying
-pub mod Mirrored
-pub mod Played
 pub mod Drawings
 pub mod WatchedDrawings

@@ -8,6 +8,8 @@ use Rattle.fibs_advice.specs.Advised.{Advises, advice_text}
 use Rattle.fibs_advice.specs.Rows.{is_asked_for}
 use Rattle.fibs_advice.specs.declared.advised.Advice.{Advice}
 use Rattle.fibs_advice.specs.declared.situation.Situation.{Situation}
+use Rattle.fibs_wording.specs.declared.environment.settings.Settings.{Settings}
+use Rattle.fibs_terminal.specs.Sent.{ShowsSent}
 use Rattle.fibs_terminal.specs.declared.memory.Memory.{Memory}
 
 -- how an advice is said in these numbers
@@ -27,7 +29,11 @@ SaysAdvice client numbers memory before after = (a : Advice)
     × ((t : Talk) → StandsAfter client t → Advises t memory.here.situation.standing a)
     × SaysRow numbers memory.here.situation memory.here.advising.says_again a before after
 
+-- before it stands the board after a move that was sent, if no board has confirmed it
+abbrev pub Rests : ClientValue → Settings → Memory → List ℕ → List ℕ → Type 0
+Rests client s memory before after = (between : List ℕ) × ShowsSent client s before between
+    × SaysAdvice client s.numbers memory between after
+
 -- the same for a writer
-abbrev pub ShowsAdvice : ClientValue → Numbers → Memory → Option (List ℕ) → Option (List ℕ) → Type 0
-ShowsAdvice client numbers memory held now = (text : List ℕ) × SaysAdvice client numbers memory [] text
-    × Appends held now text
+abbrev pub ShowsAdvice : ClientValue → Settings → Memory → Option (List ℕ) → Option (List ℕ) → Type 0
+ShowsAdvice client s memory held now = (text : List ℕ) × Rests client s memory [] text × Appends held now text

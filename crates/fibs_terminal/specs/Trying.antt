@@ -1,11 +1,10 @@
 -- A move that the user looks at before it is sent: what `try` shows of it, what `go` sends (the project's own).
-use Rattle.std.specs.Prelude.{◌≡◌, ◌⊎◌, ◌++◌, ℕ, List, [], codes, length, nat_lt, true, false, Option, Some, None, IfSome, Result, IfOk, OnOk}
+use Rattle.std.specs.Prelude.{◌≡◌, ◌≢◌, ◌⊎◌, ◌++◌, ℕ, List, [], codes, length, map, nat_lt, true, false, Option, Some, None, IfSome, Result, IfOk}
 use Rattle.std.specs.Io.KnownBytes.{Appends}
 use Rattle.fibs_fields.specs.Board.{BoardFields}
 use Rattle.fibs_position.specs.DirectionOf.{direction_of}
 use Rattle.fibs_position.specs.NumbersOf.{counted}
 use Rattle.fibs_position.specs.declared.numbers.Numbers.{Numbers}
-use Rattle.fibs_position.specs.declared.numbers.Numbers.TheVariants.{TheServers}
 use Rattle.fibs_commands.specs.Commands.{command_of}
 use Rattle.fibs_session.specs.History.Machine.{Talk, shown_now, answer_now}
 use Rattle.fibs_session.specs.Calls.Standing.{ClientValue, StandsAfter}
@@ -13,11 +12,12 @@ use Rattle.fibs_session.specs.Typing.{is_command, typed_by, typed_decision, type
 use Rattle.fibs_fields.specs.Split.{before}
 use Rattle.fibs_connect.specs.Wishes.{typed_limit}
 use Rattle.fibs_wording.specs.declared.environment.settings.Settings.{Settings}
-use Rattle.fibs_terminal.specs.Drawings.{Draws, TellsBoard, is_plain, is_worded}
+use Rattle.fibs_wording.specs.Broken.{spaced}
+use Rattle.fibs_terminal.specs.Drawings.{Draws, is_plain}
 use Rattle.fibs_connect.specs.declared.wish.Wish.{Wish}
 use Rattle.fibs_connect.specs.declared.wish.Wish.TheVariants.{Say, Answered}
 use Rattle.fibs_advice.specs.Leads.{LeadsTo}
-use Rattle.fibs_advice.specs.Trials.{tried, tried_on}
+use Rattle.fibs_advice.specs.Trials.{changes_of, tried, tried_on}
 use Rattle.fibs_advice.specs.declared.trial.Trial.{Trial}
 
 -- the command of the move, in the numbers of the board on which it was tried
@@ -32,16 +32,20 @@ command_by numbers x = command_of (counted numbers (direction_of (tried_on x))) 
 unfoldable pub go_row : List ℕ → List ℕ
 go_row command = codes "Not sent yet: go sends " ++ (command ++ codes "\n")
 
--- what is written: the board to which the move leads, and how it is sent
-abbrev pub AddsTrial : (BoardFields → List ℕ → Type 0) → Numbers → Trial → List ℕ → List ℕ → Type 0
-AddsTrial Shows numbers x before after = (b : BoardFields) × LeadsTo (tried_on x) (tried x) b × ((picture : List ℕ)
-    × Shows b picture × (after ≡ before ++ (picture ++ go_row (command_by numbers x))))
+-- what is written: the picture of the board to which the move leads, and how it is sent
+abbrev pub DrawsTrial : Settings → Trial → List ℕ → List ℕ → Type 0
+DrawsTrial s x before after = (b : BoardFields) × LeadsTo (tried_on x) (tried x) b × ((picture : List ℕ)
+    × Draws s false (is_plain s) b picture × (after ≡ before ++ (picture ++ go_row (command_by s.numbers x))))
 
--- the board is drawn, or, in the server's numbers, told if the user has asked for words and the terminal takes them as
--- they are
+-- or in words: what the move changes on the way to that board, and how it is sent. Line ends may stand for spaces
+abbrev pub TellsTrial : Numbers → Trial → List ℕ → List ℕ → Type 0
+TellsTrial numbers x before after = (b : BoardFields) × LeadsTo (tried_on x) (tried x) b
+    × (map spaced after ≡ map spaced (before ++ (changes_of numbers x b ++ go_row (command_by numbers x))))
+
+-- the board is drawn, or what changes is told, if the user has asked for words
 pub record ShowsTrial (s : Settings) (x : Trial) (before : List ℕ) (after : List ℕ) : Type 0 where
-  pub drawn : s.words ≡ false → AddsTrial (Draws s false (is_plain s)) s.numbers x before after
-  pub told : s.numbers ≡ TheServers → is_worded s ≡ true → AddsTrial TellsBoard s.numbers x before after
+  pub drawn : s.words ≡ false → DrawsTrial s x before after
+  pub told : s.words ≡ true → TellsTrial s.numbers x before after
 
 -- the move was tried on the board that is shown, and the client would take it
 pub record MayBeSent (t : Talk) (x : Trial) : Type 0 where
@@ -57,6 +61,10 @@ Tries client s kept before after = IfSome kept (λ x. ((t : Talk) → StandsAfte
 abbrev pub TriesOrKeeps : ClientValue → Settings → Option Trial → Option Trial → List ℕ → List ℕ → Type 0
 TriesOrKeeps client s old kept before after = (kept ≡ old) ⊎ Tries client s kept before after
 
+-- so does each line that the terminal does not answer
+abbrev pub KeepsUnanswered : {E : Type 0} → Option Trial → Option Trial → Result Wish E → Type 0
+KeepsUnanswered old new result = IfOk result (λ wish. wish ≢ Answered → new ≡ old)
+
 -- a line whose first word is `try`, which is not too long, and is no command by these numbers
 pub record IsTry (numbers : Numbers) (client : ClientValue) (line : List ℕ) : Type 0 where
   pub word : before 32 line ≡ codes "try"
@@ -65,16 +73,20 @@ pub record IsTry (numbers : Numbers) (client : ClientValue) (line : List ℕ) : 
   pub stands : StandsAfter client talk
   pub unknown : is_command (typed_by numbers talk line) ≡ false
 
--- after it no move is kept but the one that was shown: so what `go` sends is what the last `try` showed
+-- it is answered, and nothing is sent; after it no move is kept but the one that was shown
+abbrev pub AnswersTry : {E : Type 0} → ClientValue → Settings → Option Trial → List ℕ → List ℕ → Result Wish E → Type 0
+AnswersTry client s kept start now result = IfOk result (λ wish. (wish ≡ Answered) × Tries client s kept start now)
+
+-- so what `go` sends is what the last `try` showed
 abbrev pub ShowsTry : {E : Type 0} → ClientValue → Settings → List ℕ → Option Trial → List ℕ → List ℕ → Result Wish E
     → Type 0
-ShowsTry client s line kept start now result = IsTry s.numbers client line → OnOk result (Tries client s kept start now)
+ShowsTry client s line kept start now result = IsTry s.numbers client line → AnswersTry client s kept start now result
 
 -- the same for a writer
 abbrev pub WritesTry : {E : Type 0} → ClientValue → Settings → List ℕ → Option Trial → Option (List ℕ)
     → Option (List ℕ) → Result Wish E → Type 0
-WritesTry client s line kept held now result = IsTry s.numbers client line
-    → OnOk result ((text : List ℕ) × Tries client s kept [] text × Appends held now text)
+WritesTry client s line kept held now result = IsTry s.numbers client line → IfOk result (λ wish. (wish ≡ Answered)
+    × ((text : List ℕ) × Tries client s kept [] text × Appends held now text))
 
 -- the same for a writer
 abbrev pub ShowsTried : ClientValue → Settings → Option Trial → Option Trial → Option (List ℕ) → Option (List ℕ)

@@ -1,7 +1,10 @@
 //! Who the user is, and with whom a match of his is saved.
+ghost use Rattle.std.specs.Prelude.{◌≡◌, ◌↔◌, IsTrue, not};
+ghost use Rattle.fibs_advice.specs.Standings.{is_in_match};
 
+use fibs_advice::situation::is_same;
 use fibs_advice::standing::Standing;
-use fibs_advice::told::Told;
+use fibs_events::told::Told;
 use fibs_fields::boards::Board;
 use fibs_fields::boards::fields::{MATCH_LENGTH, OTHER_SCORE, OWN_SCORE, UNLIMITED};
 use fibs_fields::split::split;
@@ -28,7 +31,9 @@ pub struct Account {
 }
 
 /// Whether the user is in no match, so that he can join one.
-fn is_free(standing: Standing) -> bool {
+pub fn is_free(standing: Standing) -> bool
+    ensures { result ≡ not (is_in_match standing) }
+{
     matches!(
         standing,
         Standing::Free | Standing::Invited | Standing::Gone | Standing::Reopened
@@ -54,20 +59,53 @@ impl Account {
         }
     }
 
-    /// The user, as one who asks for a list of players.
-    pub fn asker(&self) -> Asker<'_> {
+    /// The user, as one who asks for a list of players, to whom boards are told in words or not.
+    pub fn asker(&self, is_told: bool) -> Asker<'_> {
         Asker {
             name: self.name.as_slice(),
             rating: self.rating,
             saved: &self.saved,
+            is_told,
         }
+    }
+
+    /// Whether this is the user's own name.
+    pub fn is_of(&self, name: &[u8]) -> bool
+        ensures { IsTrue result ↔ (self.now.name.items ≡ name.now) }
+    {
+        is_same(self.name.as_slice(), name)
+    }
+
+    /// Takes note of the user's name.
+    pub fn note_name(&mut self, name: &[u8]) -> Result<(), AllocError> {
+        self.name.clear();
+        self.name.extend_from_slice(name)
+    }
+
+    /// Takes note of the user's rating, in hundredths.
+    pub fn note_rating(&mut self, rating: u32) {
+        self.rating = Some(rating);
+    }
+
+    /// The user's own name; empty if the server has not said it.
+    pub fn name(&self) -> &[u8] {
+        self.name.as_slice()
+    }
+
+    /// The user's own rating, in hundredths, if the server has said it.
+    pub fn rating(&self) -> Option<u32> {
+        self.rating
+    }
+
+    /// Whether a match with a player is saved, as far as is known.
+    pub fn has_saved(&self, name: &[u8]) -> bool {
+        self.saved.with(name).is_some()
     }
 
     /// Takes note of who the user is.
     pub fn note_own_info(&mut self, info: &OwnInfo<'_>) -> Result<(), AllocError> {
-        self.rating = Some(info.rating);
-        self.name.clear();
-        self.name.extend_from_slice(info.name.bytes())
+        self.note_rating(info.rating);
+        self.note_name(info.name.bytes())
     }
 
     /// Says that a player who has logged in is here with whom a match is saved, and if the user can, how it is resumed.

@@ -1,37 +1,42 @@
 //! What a line that is typed at a terminal asks for.
-ghost use Rattle.std.specs.Prelude.{◌≡◌, ◌≤◌, length, codes, true, Some, IfOk, OnOk};
+ghost use Rattle.std.specs.Prelude.{◌≡◌, ◌≤◌, length, codes, true, false, is_some, Some, None, IfOk, OnOk};
 ghost use Rattle.fibs_connect.specs.Wishes.{wish_value};
 ghost use Rattle.fibs_session.specs.Calls.Standing.{StandsAfter};
 ghost use Rattle.fibs_session.specs.History.Machine.{Talk};
-ghost use Rattle.fibs_session.specs.Typing.{IsMeant};
-ghost use Rattle.fibs_terminal.specs.Asking.{AsksInBounds, KnownGoesOn, SendsUntaken};
+ghost use Rattle.fibs_session.specs.Typing.{IsMeant, decided, is_command, typed_by, typed_now};
+ghost use Rattle.fibs_terminal.specs.Asking.{AsksInBounds, IsTakenAs, IsTakenOrGoes, KnownGoesOn, SendsUntaken};
+ghost use Rattle.fibs_terminal.specs.Leaving.{NeverQuits, Quits, QuitsBy};
+ghost use Rattle.fibs_terminal.specs.Sending.{SendsNoDecision, SendsOnWord, WentOnWord, says_send};
 ghost use Rattle.fibs_fields.specs.Split.{before};
-ghost use Rattle.fibs_terminal.specs.Trying.{GoesOn, ShowsTry, Tries, TriesOrKeeps};
+ghost use Rattle.fibs_terminal.specs.Trying.{AnswersTry, GoesOn, KeepsUnanswered, ShowsTry, Tries, TriesOrKeeps};
 
-use crate::drawing::{
-    Watching, append_watched_words, append_words, in_numbers, watched_in_numbers,
-};
+use crate::drawing::{Boards, Watching};
 use crate::looking::{TRY_WHAT, trial_of};
 use crate::screen::Screen;
+use crate::sending::{after_send, decision_typed, send};
 use crate::story::Story;
+use crate::talk::goes_as_typed;
 use crate::telling::UNKNOWN;
 use bstr::ByteSlice;
+use fibs_advice::passing::Passing;
 use fibs_advice::rules::append_rule;
 use fibs_advice::spelling::words::{append_small_word, append_spelled};
 use fibs_connect::typed_line::{TYPED_LIMIT, TypedLine};
 use fibs_connect::wish::Wish;
-use fibs_fields::decimal::read_decimal;
 use fibs_fields::split::split;
 use fibs_fields::trailing_spaces::without_spaces;
-use fibs_position::{Decision, Direction, Numbers};
+use fibs_picture::in_words::{Fact, Told, append_row};
+use fibs_position::{Decision, Numbers};
 use fibs_session::typed::meant::{is_command_by, meant_command, read_typed_by};
 use fibs_session::typed::taking::would_take;
-use fibs_session::typed::typing::{Typed, read_typed};
-use fibs_session::{Client, Directory, Refusal, decision_text};
+use fibs_session::typed::typing::Typed;
+use fibs_session::{Client, Directory, Refusal};
+use fibs_wording::environment::broken::break_at_spaces;
 use fibs_wording::environment::pieces::append_all;
 use fibs_wording::environment::shown::append_shown;
 use fibs_wording::environment::{Page, read_numbers};
 use fibs_wording::help;
+use fibs_wording::meant::meant_word;
 use fibs_wording::players::append_players;
 use fibs_wording::reasons::refusal_words;
 use fibs_wording::server_words::{is_leaving_word, is_passed, is_server_word};
@@ -45,7 +50,6 @@ enum Own {
     Re,
     Try,
     Go,
-    Send,
 }
 
 /// A word that the terminal answers, and for which nothing is sent.
@@ -59,24 +63,20 @@ enum Here {
     Ungag,
     Quiet,
     Loud,
+    Arrivals,
     Talk,
     Moves,
+    Matches,
+    Reconnect,
+    Stay,
     Columns,
+    Rows,
+    Board,
     Numbers,
 }
 
-/// What is said of `send` without a line.
-const SEND_HELP: &[u8] = b"send LINE: LINE goes to the server as it is, unchecked.\n";
-
 /// What is said if `moves` is followed by another word.
 const WHICH_MOVES: &[u8] = b"moves, or moves all.\n";
-
-/// The widths that a terminal may have, and what is said if `columns` is not followed by one.
-const LEAST_COLUMNS: u64 = 20;
-
-const MOST_COLUMNS: u64 = 999;
-
-const WHICH_COLUMNS: &[u8] = b"columns 60: how wide the terminal is, from 20 to 999.\n";
 
 /// What is said if `numbers` is not followed by whose they are, and what after it.
 const WHICH_NUMBERS: &[u8] =
@@ -86,11 +86,16 @@ const OWN_NUMBERS: &[u8] = b"Places have your own numbers now: you go from 24 do
 
 const SERVERS_NUMBERS: &[u8] = b"Places have the server's numbers now.\n";
 
+/// What is said if `words` is followed by another word, and what after those that change how boards are told.
+const WHICH_WORDS: &[u8] = b"words, words score, words cube, words short, or words long.\n";
+
+const SHORT_WORDS: &[u8] =
+    b"In words, what is as it was before is left out now. words tells all of it.\n";
+
+const LONG_WORDS: &[u8] = b"In words, each board is told whole now.\n";
+
 /// How many bytes of what follows a word are shown in a row: with the longest word the row fits.
 const MOST_SHOWN: usize = 19;
-
-/// The words of the conversation.
-const TALK_WORDS: [&[u8]; 2] = [b"open", b"quit"];
 
 /// The word of the terminal that a word is, if it is one.
 fn own_word(word: &[u8]) -> Option<Own>
@@ -106,24 +111,32 @@ fn own_word(word: &[u8]) -> Option<Own>
         b"ungag" => Some(Own::Here(Here::Ungag)),
         b"quiet" => Some(Own::Here(Here::Quiet)),
         b"loud" => Some(Own::Here(Here::Loud)),
+        b"arrivals" => Some(Own::Here(Here::Arrivals)),
         b"talk" => Some(Own::Here(Here::Talk)),
         b"re" => Some(Own::Re),
         b"try" => Some(Own::Try),
         b"go" => Some(Own::Go),
         b"moves" => Some(Own::Here(Here::Moves)),
+        b"matches" => Some(Own::Here(Here::Matches)),
+        b"reconnect" => Some(Own::Here(Here::Reconnect)),
+        b"stay" => Some(Own::Here(Here::Stay)),
         b"columns" => Some(Own::Here(Here::Columns)),
+        b"rows" => Some(Own::Here(Here::Rows)),
+        b"board" => Some(Own::Here(Here::Board)),
         b"numbers" => Some(Own::Here(Here::Numbers)),
-        b"send" => Some(Own::Send),
         _ => None,
     }
 }
 
 /// Whether a line is a word of the conversation, or begins with a word of the terminal.
 fn is_own(line: &[u8]) -> bool
+    ensures quit { line.now ≡ codes "quit" → result ≡ true }
     ensures go { line.now ≡ codes "go" → result ≡ true }
     ensures tries { before 32 line.now ≡ codes "try" → result ≡ true }
 {
-    TALK_WORDS.contains(&line) || own_word(split(line, b' ').0).is_some()
+    line == b"quit".as_slice()
+        || line == b"open".as_slice()
+        || own_word(split(line, b' ').0).is_some()
 }
 
 /// What follows a word.
@@ -160,6 +173,7 @@ fn spell(
     numbers: Numbers,
     line: &mut TypedLine,
 ) -> Result<(), AllocError>
+    ensures quit { line.old.items ≡ codes "quit" → line.new.items ≡ line.old.items }
     ensures go { line.old.items ≡ codes "go" → line.new.items ≡ line.old.items }
     ensures tries { before 32 line.old.items ≡ codes "try" → line.new.items ≡ line.old.items }
 {
@@ -245,6 +259,17 @@ fn say_foreign(word: &[u8], rest: Option<&[u8]>, page: &mut Page<'_>) -> Result<
     page.say(b" sends it as it is\n")
 }
 
+/// Says which word may have been meant, if one is near.
+fn say_meant(word: &[u8], page: &mut Page<'_>) -> Result<(), AllocError> {
+    match meant_word(word) {
+        None => page.say(UNKNOWN),
+        Some(meant) => {
+            append_shown(word, page.settings.utf8, &mut page.text)?;
+            page.say_all(&[b": ", meant, b"?\n"])
+        }
+    }
+}
+
 /// Says what to type in place of a line that is no command: nothing is sent by a guess.
 fn say_unknown(line: &[u8], page: &mut Page<'_>) -> Result<(), AllocError> {
     let (word, rest) = split(line, b' ');
@@ -259,65 +284,36 @@ fn say_unknown(line: &[u8], page: &mut Page<'_>) -> Result<(), AllocError> {
     }
     match help::word_help(word) {
         Some(words) => page.say(words),
-        None => page.say(UNKNOWN),
+        None => say_meant(word, page),
     }
 }
 
-/// What a line asks for that is no word of the terminal: the client takes it, it goes to the server as it is, or it is
+/// Whether the client reads a decision in a line.
+fn decides(client: &Client, line: &[u8]) -> bool
+    ensures { (t : Talk) → StandsAfter client.now t → result ≡ is_some (decided (typed_now t line.now)) }
+{
+    decision_typed(client, Numbers::TheServers, line).is_some()
+}
+
+/// What a line asks for that the client does not take: it goes to the server as it is, unless it decides, or is
 /// answered by the line to type.
 fn wish_foreign(
     client: &Client,
-    typed: &[u8],
     line: &mut TypedLine,
     page: &mut Page<'_>,
 ) -> Result<Wish, AllocError>
-    ensures { SendsUntaken client.now line.new.items result }
+    ensures sent { SendsUntaken client.now line.new.items result }
+    ensures decides { SendsNoDecision client.now line.new.items result }
+    ensures quits { NeverQuits result }
 {
-    if is_command_by(client, page.settings.numbers, typed) {
-        set_meant(client, page.settings.numbers, line);
-        return Ok(Wish::Say);
+    if is_passed(line.as_slice())
+        && !would_take(client, line.as_slice())
+        && !decides(client, line.as_slice())
+    {
+        return Ok(Wish::Send);
     }
-    if is_passed(typed) {
-        return send(client, typed, line, page);
-    }
-    say_unknown(typed, page)?;
+    say_unknown(line.as_slice(), page)?;
     Ok(Wish::Answered)
-}
-
-/// Says how a line is typed that the client would take: a decision in the numbers that the user reads.
-fn say_without_send(client: &Client, line: &[u8], page: &mut Page<'_>) -> Result<(), AllocError> {
-    page.say(b"Type it without send: ")?;
-    match read_typed(client, line) {
-        Typed::Decision(decision) => {
-            let way = page
-                .settings
-                .numbers
-                .way(client.direction().unwrap_or(Direction::Down));
-            page.show_row(decision_text(&decision, way).as_bytes())
-        }
-        _ => page.show_row(line),
-    }
-}
-
-/// Sends a line as it is, unless the client would take it.
-fn send(
-    client: &Client,
-    rest: &[u8],
-    line: &mut TypedLine,
-    page: &mut Page<'_>,
-) -> Result<Wish, AllocError>
-    ensures { SendsUntaken client.now line.new.items result }
-{
-    if rest.is_empty() {
-        page.say(SEND_HELP)?;
-        return Ok(Wish::Answered);
-    }
-    set_line(line, rest);
-    if would_take(client, line.as_slice()) {
-        say_without_send(client, rest, page)?;
-        return Ok(Wish::Answered);
-    }
-    Ok(Wish::Send)
 }
 
 /// Lists the rolls and plays of the game so far.
@@ -328,18 +324,6 @@ fn say_moves(story: &Story, rest: &[u8], page: &mut Page<'_>) -> Result<(), Allo
         b"all" => story.append_turns(alloc, page.settings.numbers, true, &mut page.text),
         _ => page.say(WHICH_MOVES),
     }
-}
-
-/// The terminal has so many columns now.
-fn set_columns(rest: &[u8], page: &mut Page<'_>) -> Result<(), AllocError> {
-    let Some(columns) = read_decimal(rest, MOST_COLUMNS) else {
-        return page.say(WHICH_COLUMNS);
-    };
-    if columns < LEAST_COLUMNS {
-        return page.say(WHICH_COLUMNS);
-    }
-    page.settings.columns = columns as usize;
-    Ok(())
 }
 
 /// Places have these numbers now.
@@ -364,39 +348,67 @@ pub(crate) fn say_no_game(client: &Client, page: &mut Page<'_>) -> Result<(), Al
 }
 
 /// Tells in words the board that is shown: of the game that is watched, else of the user's own.
-fn say_words(client: &Client, watching: &Watching, page: &mut Page<'_>) -> Result<(), AllocError> {
-    let alloc = page.alloc;
-    let columns = page.settings.columns;
-    let numbers = page.settings.numbers;
+fn say_board(
+    client: &Client,
+    watching: &mut Watching,
+    boards: &mut Boards,
+    page: &mut Page<'_>,
+) -> Result<(), AllocError> {
     match (watching.board(), client.game()) {
         (Some(watched), _) => {
-            let shown = watched_in_numbers(watched, numbers);
-            append_watched_words(alloc, &shown, columns, &mut page.text)
+            let watched = *watched;
+            watching.tell(&watched, true, page)
         }
-        (None, Some(game)) => {
-            let shown = in_numbers(game, numbers);
-            append_words(alloc, &shown, columns, &mut page.text)
-        }
+        (None, Some(game)) => boards.tell(game, true, page),
         (None, None) => say_no_game(client, page),
     }
 }
 
+/// Tells in words one fact of that board.
+fn say_fact(
+    client: &Client,
+    watching: &Watching,
+    fact: Fact,
+    page: &mut Page<'_>,
+) -> Result<(), AllocError> {
+    let numbers = page.settings.numbers;
+    let told = match (watching.board(), client.game()) {
+        (Some(watched), _) => Told::Watched(*watched, numbers),
+        (None, Some(game)) => Told::Game(*game, numbers),
+        (None, None) => return say_no_game(client, page),
+    };
+    let alloc = page.alloc;
+    append_row(alloc, &told, fact, page.settings.columns, &mut page.text)
+}
+
+/// Of boards that come only what is new is told in words from now on, or they are told whole.
+fn set_short(is_short: bool, page: &mut Page<'_>) -> Result<(), AllocError> {
+    page.settings.is_short = is_short;
+    page.say(if is_short { SHORT_WORDS } else { LONG_WORDS })
+}
+
 impl<'a> Screen<'a> {
-    /// What a line asks for. It is respelled if the client does not know it as it is.
-    pub(crate) fn wish(
+    /// What a line asks for, whether or not a match is on. It is respelled if the client does not know it as it is.
+    pub(crate) fn wish_line(
         &mut self,
         client: &Client,
         directory: &Directory,
         line: &mut TypedLine,
     ) -> Result<Wish, AllocError>
         ensures asks { IfOk result (λ wish. AsksInBounds line.old.items (wish_value wish line.new.items)) }
-        ensures known { KnownGoesOn client.now self.old.page.settings.numbers line.old.items line.new.items result }
+        ensures known { KnownGoesOn client.now self.old.page.settings.numbers self.old.memory.here.situation.standing
+            line.old.items line.new.items result }
+        ensures word { SendsOnWord client.now self.old.memory.here.situation.standing line.old.items line.new.items
+            result }
         ensures sent { SendsUntaken client.now line.new.items result }
         ensures tried { OnOk result (TriesOrKeeps client.now self.old.page.settings self.old.memory.here.looking.trial
             self.new.memory.here.looking.trial self.old.page.text.items self.new.page.text.items) }
         ensures went { GoesOn client.now self.old.memory.here.looking.trial line.old.items line.new.items result }
         ensures shown { ShowsTry client.now self.old.page.settings line.old.items self.new.memory.here.looking.trial
             self.old.page.text.items self.new.page.text.items result }
+        ensures still { KeepsUnanswered self.old.memory.here.looking.trial self.new.memory.here.looking.trial result }
+        ensures quit { Quits client.now line.old.items result }
+        ensures quits { QuitsBy line.new.items result }
     {
         if line.is_empty() {
             return Ok(Wish::Listen);
@@ -407,12 +419,53 @@ impl<'a> Screen<'a> {
         let alloc = self.page.alloc;
         let numbers = self.page.settings.numbers;
         self.memory.here.rule = Vec::new(alloc);
+        self.memory.here.passing = Passing::Asks;
         if is_command_by(client, numbers, line.as_slice()) {
-            note_rule(client, numbers, line.as_slice(), &mut self.memory.here.rule)?;
-            set_meant(client, numbers, line);
-            return Ok(Wish::Say);
+            return self.wish_known(client, line);
         }
         self.wish_unknown(client, directory, line)
+    }
+
+    /// What a command asks for: talk may go to the server as it was typed.
+    #[tactic(auto, using(crate::proofs::SendingLemmas::taken_goes, crate::proofs::SendingLemmas::talk_goes))]
+    fn wish_known(&mut self, client: &Client, line: &mut TypedLine) -> Result<Wish, AllocError>
+        ensures stays { (t : Talk) → StandsAfter client.now t →
+            typed_now t line.old.items ≡ typed_by self.old.page.settings.numbers t line.old.items →
+            line.new.items ≡ line.old.items }
+        ensures known { IfOk result (λ wish. (t : Talk) → StandsAfter client.now t →
+            is_command (typed_by self.old.page.settings.numbers t line.old.items) ≡ true →
+            IsTakenOrGoes self.old.page.settings.numbers t self.old.memory.here.situation.standing
+            line.old.items line.new.items wish) }
+        ensures looking { self.new.memory.here.looking ≡ self.old.memory.here.looking }
+        ensures quits { NeverQuits result }
+    {
+        if goes_as_typed(client, line.as_slice()) {
+            Ok(Wish::Send)
+        } else {
+            self.wish_command(client, line)
+        }
+    }
+
+    /// What any other command asks for.
+    fn wish_command(&mut self, client: &Client, line: &mut TypedLine) -> Result<Wish, AllocError>
+        ensures stays { (t : Talk) → StandsAfter client.now t →
+            typed_now t line.old.items ≡ typed_by self.old.page.settings.numbers t line.old.items →
+            line.new.items ≡ line.old.items }
+        ensures known { IfOk result (λ wish. (t : Talk) → StandsAfter client.now t →
+            is_command (typed_by self.old.page.settings.numbers t line.old.items) ≡ true →
+            IsTakenAs self.old.page.settings.numbers t self.old.memory.here.situation.standing
+            line.old.items line.new.items wish) }
+        ensures looking { self.new.memory.here.looking ≡ self.old.memory.here.looking }
+        ensures quits { NeverQuits result }
+    {
+        let numbers = self.page.settings.numbers;
+        note_rule(client, numbers, line.as_slice(), &mut self.memory.here.rule)?;
+        let decision = decision_typed(client, numbers, line.as_slice());
+        set_meant(client, numbers, line);
+        match decision {
+            None => Ok(Wish::Say),
+            Some(decision) => self.decide(client, &decision),
+        }
     }
 
     /// What a line that the client does not know asks for.
@@ -422,46 +475,63 @@ impl<'a> Screen<'a> {
         directory: &Directory,
         line: &mut TypedLine,
     ) -> Result<Wish, AllocError>
+        ensures word { says_send line.old.items ≡ false → WentOnWord client.now
+            self.old.memory.here.situation.standing line.new.items result }
         ensures sent { SendsUntaken client.now line.new.items result }
         ensures tried { OnOk result (TriesOrKeeps client.now self.old.page.settings self.old.memory.here.looking.trial
             self.new.memory.here.looking.trial self.old.page.text.items self.new.page.text.items) }
         ensures went { GoesOn client.now self.old.memory.here.looking.trial line.old.items line.new.items result }
-        ensures shown { before 32 line.old.items ≡ codes "try" → OnOk result (Tries client.now self.old.page.settings
-            self.new.memory.here.looking.trial self.old.page.text.items self.new.page.text.items) }
+        ensures shown { before 32 line.old.items ≡ codes "try" → AnswersTry client.now self.old.page.settings
+            self.new.memory.here.looking.trial self.old.page.text.items self.new.page.text.items result }
+        ensures still { KeepsUnanswered self.old.memory.here.looking.trial self.new.memory.here.looking.trial result }
+        ensures quit { Quits client.now line.old.items result }
+        ensures quits { QuitsBy line.new.items result }
     {
         let alloc = self.page.alloc;
         let numbers = self.page.settings.numbers;
+        let original = line.as_slice().to_vec(alloc)?;
         spell(alloc, client, numbers, line)?;
         if line.as_slice() == b"open".as_slice() {
+            self.memory.program.reconnecting.begin();
             return Ok(Wish::Open);
         }
         if line.as_slice() == b"quit".as_slice() {
             return Ok(Wish::Quit);
         }
-        note_rule(client, numbers, line.as_slice(), &mut self.memory.here.rule)?;
         let typed = line.as_slice().to_vec(alloc)?;
-        self.wish_typed(client, directory, typed.as_slice(), line)
+        self.wish_typed(
+            client,
+            directory,
+            original.as_slice(),
+            typed.as_slice(),
+            line,
+        )
     }
 
-    /// What a line asks for that may begin with a word of the terminal.
+    /// What a line asks for that may begin with a word of the terminal, and was spelled otherwise at first.
+    #[tactic(auto, using(crate::proofs::SendingLemmas::nothing_went))]
     fn wish_typed(
         &mut self,
         client: &Client,
         directory: &Directory,
+        original: &[u8],
         typed: &[u8],
         line: &mut TypedLine,
     ) -> Result<Wish, AllocError>
+        ensures word { says_send original.now ≡ false → WentOnWord client.now
+            self.old.memory.here.situation.standing line.new.items result }
         ensures sent { SendsUntaken client.now line.new.items result }
         ensures tried { OnOk result (TriesOrKeeps client.now self.old.page.settings self.old.memory.here.looking.trial
             self.new.memory.here.looking.trial self.old.page.text.items self.new.page.text.items) }
         ensures went { GoesOn client.now self.old.memory.here.looking.trial typed.now line.new.items result }
-        ensures shown { before 32 typed.now ≡ codes "try" → OnOk result (Tries client.now self.old.page.settings
-            self.new.memory.here.looking.trial self.old.page.text.items self.new.page.text.items) }
+        ensures shown { before 32 typed.now ≡ codes "try" → AnswersTry client.now self.old.page.settings
+            self.new.memory.here.looking.trial self.old.page.text.items self.new.page.text.items result }
+        ensures still { KeepsUnanswered self.old.memory.here.looking.trial self.new.memory.here.looking.trial result }
+        ensures quits { NeverQuits result }
     {
         let rest = after_word(typed);
         match own_word(split(typed, b' ').0) {
-            None => wish_foreign(client, typed, line, &mut self.page),
-            Some(Own::Send) => send(client, rest, line, &mut self.page),
+            None => self.wish_other(client, original, line),
             Some(Own::Re) => self
                 .memory
                 .program
@@ -481,6 +551,31 @@ impl<'a> Screen<'a> {
                 Ok(Wish::Answered)
             }
         }
+    }
+
+    /// What a line asks for that begins with no word of the terminal but `send`.
+    #[tactic(auto, using(crate::proofs::SendingLemmas::command_on_word, crate::proofs::SendingLemmas::command_untaken))]
+    fn wish_other(
+        &mut self,
+        client: &Client,
+        original: &[u8],
+        line: &mut TypedLine,
+    ) -> Result<Wish, AllocError>
+        ensures word { says_send original.now ≡ false → WentOnWord client.now
+            self.old.memory.here.situation.standing line.new.items result }
+        ensures sent { SendsUntaken client.now line.new.items result }
+        ensures looking { self.new.memory.here.looking ≡ self.old.memory.here.looking }
+        ensures quits { NeverQuits result }
+    {
+        if let Some(rest) = after_send(original) {
+            return send(client, rest, line, &mut self.page);
+        }
+        let numbers = self.page.settings.numbers;
+        let is_known = is_command_by(client, numbers, line.as_slice());
+        if is_known {
+            return self.wish_known(client, line);
+        }
+        wish_foreign(client, line, &mut self.page)
     }
 
     /// Answers a word, with what follows it: the words of the terminal may be in capitals, and a name is as it is.
@@ -504,19 +599,47 @@ impl<'a> Screen<'a> {
                 .here
                 .looking
                 .say_plays(client, small, &mut self.page),
-            Here::Words => say_words(client, &self.memory.here.watching, &mut self.page),
+            Here::Words => self.answer_words(client, small),
             Here::Players => {
-                let asker = self.memory.program.account.asker();
-                append_players(alloc, directory, rest, &asker, &mut self.page.text)
+                let is_told = self.page.settings.words;
+                let asker = self.memory.program.account.asker(is_told);
+                let start = self.page.text.len();
+                append_players(alloc, directory, rest, &asker, &mut self.page.text)?;
+                if is_told {
+                    break_at_spaces(start, self.page.columns(), &mut self.page.text);
+                }
+                Ok(())
             }
             Here::Moves => say_moves(&self.memory.here.table.story, small, &mut self.page),
-            Here::Columns => set_columns(small, &mut self.page),
+            Here::Matches => self.say_matches(rest),
+            Here::Reconnect => self.ask_reconnect(client),
+            Here::Stay => self.stay(),
+            Here::Columns => self.set_columns(small),
+            Here::Rows => self.set_rows(small),
+            Here::Board => self.place_board(small),
             Here::Numbers => set_numbers(small, &mut self.page),
             Here::Talk => self.memory.program.talk.say_rows(&mut self.page),
             Here::Gag => self.memory.program.people.gag(rest, &mut self.page),
             Here::Ungag => self.memory.program.people.ungag(rest, &mut self.page),
             Here::Quiet => self.memory.program.people.set_quiet(true, &mut self.page),
             Here::Loud => self.memory.program.people.set_quiet(false, &mut self.page),
+            Here::Arrivals => self.memory.program.people.set_arrivals(&mut self.page),
+        }
+    }
+
+    /// Answers `words`, by what follows it.
+    fn answer_words(&mut self, client: &Client, rest: &[u8]) -> Result<(), AllocError>
+        ensures { self.new.memory.here.looking ≡ self.old.memory.here.looking }
+    {
+        let here = &mut self.memory.here;
+        let page = &mut self.page;
+        match rest {
+            b"" => say_board(client, &mut here.watching, &mut here.table.boards, page),
+            b"score" => say_fact(client, &here.watching, Fact::Score, page),
+            b"cube" => say_fact(client, &here.watching, Fact::Cube, page),
+            b"short" => set_short(true, page),
+            b"long" => set_short(false, page),
+            _ => page.say(WHICH_WORDS),
         }
     }
 
@@ -548,7 +671,8 @@ impl<'a> Screen<'a> {
     {
         if word.is_empty() {
             self.memory.here.advising.inquired = true;
-            self.page.say_rows(help::screen())?;
+            let is_told = self.page.settings.words;
+            self.page.say_rows(help::screen(is_told))?;
             return self.memory.here.watching.say_hint(&mut self.page);
         }
         match help::word_help(split(word, b' ').0) {

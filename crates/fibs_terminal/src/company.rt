@@ -18,7 +18,12 @@ pub struct Company {
     listed: Directory,
     /// Whether the rows of a list of saved matches are coming.
     pub lists: bool,
+    /// Who has talked with the user.
+    spoken: Vec<Vec<u8>>,
 }
+
+/// How many who have talked with the user are kept: then the first of them goes.
+const MOST_SPOKEN: usize = 256;
 
 impl Company {
     /// The server has said nothing.
@@ -28,7 +33,36 @@ impl Company {
         Company {
             listed: Directory::new(alloc),
             lists: false,
+            spoken: Vec::new(alloc),
         }
+    }
+
+    /// The players who are listed.
+    pub fn listed(&self) -> &Directory {
+        &self.listed
+    }
+
+    /// Whether a player has talked with the user.
+    pub fn has_spoken(&self, name: &[u8]) -> bool {
+        for spoken in &self.spoken {
+            if spoken.as_slice() == name {
+                return true;
+            }
+        }
+        false
+    }
+
+    /// A player has talked with the user.
+    pub fn note_speaker(&mut self, alloc: Global, name: &[u8]) -> Result<(), AllocError> {
+        if self.has_spoken(name) {
+            return Ok(());
+        }
+        let name = Vec::from_slice(alloc, name)?;
+        if self.spoken.len() >= MOST_SPOKEN {
+            self.spoken.remove(0);
+        }
+        self.spoken.push(name)?;
+        Ok(())
     }
 
     /// Takes note of a message: who is listed.

@@ -6,7 +6,7 @@ use fibs_connect::fault::FrontFault;
 use fibs_engine::writing::write_bytes;
 use fibs_wording::environment::broken::front_of;
 use fibs_wording::environment::pieces::append_all;
-use fibs_wording::environment::{Config, Setting, read_setting};
+use fibs_wording::environment::{Config, Setting, Telling, read_setting};
 use itoa::Buffer;
 use std::alloc::AllocError;
 use std::io::Write;
@@ -23,16 +23,23 @@ impl<'a> Screen<'a> {
             None => return Ok(false),
             Some(Setting::Nothing) => {}
             Some(Setting::Gag(name)) => return self.memory.program.people.hide(alloc, name),
-            Some(Setting::Quiet) => self.memory.program.people.quiet = true,
-            Some(Setting::Words) => self.page.settings.words = true,
+            Some(Setting::Quiet) => self.memory.program.people.hide_all(),
+            Some(Setting::Arrivals) => self.memory.program.people.arrivals = true,
+            Some(Setting::Words(telling)) => {
+                self.page.settings.words = true;
+                self.page.settings.is_short = matches!(telling, Telling::Short);
+            }
             Some(Setting::NoColour) => self.page.settings.colour = false,
             Some(Setting::NoBell) => self.page.settings.bell = false,
             Some(Setting::NoTitle) => self.page.settings.title = false,
+            Some(Setting::NoRecord) => self.record.is_off = true,
             Some(Setting::Letters(letters)) => self.page.settings.letters = Some(letters),
             Some(Setting::HomeAbove) => self.page.settings.is_turned = true,
             Some(Setting::Numbers(numbers)) => self.page.settings.numbers = numbers,
+            Some(Setting::BoardAbove(is_above)) => self.page.settings.above = Some(is_above),
             // it is given as if it were typed
             Some(Setting::OrderRoll) => {}
+            Some(Setting::Reconnect) => self.memory.program.reconnecting.ask(false),
         }
         Ok(true)
     }

@@ -1,22 +1,32 @@
 //! What a terminal shows of what the server sends.
 
+mod greeting;
+mod left_out;
+
+use crate::account::is_free;
 use crate::company::is_told;
+use crate::listening::left_out::{
+    Known, LeftOut, Seen, change_left_out, message_left_out, player_of, text_left_out,
+};
 use crate::people::ListAsked;
+use crate::results::Rated;
 use crate::screen::{Moment, Screen};
 use crate::talk::Talk;
+use fibs_advice::situation::is_same;
 use fibs_advice::standing::Standing;
-use fibs_advice::told::Told;
+use fibs_events::told::Told;
+use fibs_fields::trailing_spaces::without_spaces;
 use fibs_lines::Line;
 use fibs_messages::{Fault, Message, Reading};
 use fibs_position::Phase;
 use fibs_wording::environment::Page;
 use fibs_wording::environment::broken::break_at_spaces;
+use fibs_wording::lists::append_greeting;
 use fibs_wording::messages::append_message;
+use fibs_wording::players::{append_players, count_players};
 use fibs_wording::reasons::append_malformed;
+pub use greeting::Greeting;
 use std::alloc::AllocError;
-
-/// What the server says to a player who can't move.
-const CANT_MOVE: &[u8] = b"You can't move.";
 
 /// How many bytes of a text are kept, to know a row that would say the same: no row of a board is longer.
 const MOST_KEPT: usize = 80;
@@ -24,15 +34,6 @@ const MOST_KEPT: usize = 80;
 /// What is kept of a text.
 fn kept_of(said: &[u8]) -> &[u8] {
     &said[..said.len().min(MOST_KEPT)]
-}
-
-/// Whether a text of the server says no more than the hint does, or the board that came last, or nothing.
-fn is_said_already(said: &[u8], phase: Option<Phase>) -> bool {
-    said.is_empty()
-        || said.starts_with(b"Please move ")
-        || said.starts_with(b"It's your turn to ")
-        || said.starts_with(b"It's your turn. Please ")
-        || (said == CANT_MOVE && phase == Some(Phase::Passing))
 }
 
 /// Shows a line that can't be read, and why.
@@ -100,7 +101,7 @@ impl<'a> Screen<'a> {
         match reading {
             Reading::Board(board) => self.hear_watched(line.bytes, board),
             Reading::Numbered(message) => self.hear_message(message, moment),
-            Reading::Text(_) => self.hear_text(line.bytes),
+            Reading::Text(_) => self.hear_text(line.bytes, moment),
             Reading::Malformed {
                 number,
                 field,
@@ -110,11 +111,36 @@ impl<'a> Screen<'a> {
     }
 
     /// Hears a line without a number. What it says of the match counts even if it is not shown.
-    fn hear_text(&mut self, said: &[u8]) -> Result<(), AllocError> {
-        let told = self.note_told(said)?;
-        if is_said_already(said, self.memory.here.table.boards.phase()) {
-            return Ok(());
+    fn hear_text(&mut self, said: &[u8], moment: Moment) -> Result<(), AllocError> {
+        let told = self.note_told(said, moment)?;
+        let left_out = self.text_left_out(without_spaces(said), told)?;
+        self.memory.here.greeting.hear_text(without_spaces(said));
+        if left_out.is_none() {
+            self.show_unknown(said, told)?;
         }
+        self.say_greeting()
+    }
+
+    /// Why a text is not shown; None if it is.
+    fn text_left_out(
+        &self,
+        said: &[u8],
+        told: Option<Told>,
+    ) -> Result<Option<LeftOut>, AllocError> {
+        let here = &self.memory.here;
+        let alloc = self.page.alloc;
+        let known = Known {
+            passes: here.table.boards.phase() == Some(Phase::Passing),
+            is_ended: here.table.boards.has_told(alloc, said)?,
+            is_next: told == Some(Told::NextGame) && here.situation.standing == Standing::Next,
+            is_invited: told == Some(Told::Invited) && is_told(said, &here.situation.inviter),
+            is_answer: here.greeting.is_answered(said),
+        };
+        Ok(text_left_out(said, &known))
+    }
+
+    /// Shows a text that is not left out: an invitation in other words.
+    fn show_unknown(&mut self, said: &[u8], told: Option<Told>) -> Result<(), AllocError> {
         if told == Some(Told::Invited) && self.memory.program.converses && self.say_invited(said)? {
             return Ok(());
         }
@@ -124,9 +150,34 @@ impl<'a> Screen<'a> {
         self.note_watching(said)
     }
 
+    /// Ends the login by a row, if it is due: who is there, and what to type next if the user is in no match.
+    pub(crate) fn say_greeting(&mut self) -> Result<(), AllocError> {
+        let here = &mut self.memory.here;
+        if !here.greeting.is_due() {
+            return Ok(());
+        }
+        here.greeting.settle();
+        let account = &self.memory.program.account;
+        let listed = here.company.listed();
+        let others = count_players(listed, b"", account.name());
+        let ready = count_players(listed, b"ready", account.name());
+        let is_free = here.situation.standing == Standing::Free && !here.greeting.plays_itself();
+        let start = self.page.text.len();
+        append_greeting(
+            account.rating(),
+            others,
+            ready,
+            is_free,
+            &mut self.page.text,
+        )?;
+        self.page.end_row(start)
+    }
+
     /// Takes note of what a text says of the match, and rings the bell if the opponent offers to resign.
-    fn note_told(&mut self, said: &[u8]) -> Result<Option<Told>, AllocError> {
+    fn note_told(&mut self, said: &[u8], moment: Moment) -> Result<Option<Told>, AllocError> {
+        let before = self.memory.here.situation.standing;
         let told = self.memory.here.situation.hear_text(said);
+        self.note_result(said, told, before, moment)?;
         self.note_match(said, told)?;
         match told {
             Some(Told::Begins | Told::Resumes) => {
@@ -165,9 +216,6 @@ impl<'a> Screen<'a> {
     /// Says who invites the user. False if the text says something else.
     fn say_invited(&mut self, said: &[u8]) -> Result<bool, AllocError> {
         let here = &mut self.memory.here;
-        if is_told(said, &here.situation.inviter) {
-            return Ok(true);
-        }
         let standing = here.situation.standing;
         let is_said = here.company.say_invitation(said, standing, &mut self.page)?;
         here.situation.inviter.is_told = is_said.is_some() && standing == Standing::Invited;
@@ -192,10 +240,25 @@ impl<'a> Screen<'a> {
         let here = &mut self.memory.here;
         here.company.note_message(message)?;
         match message {
-            Message::OwnInfo(info) => self.memory.program.account.note_own_info(info)?,
-            Message::Welcome { .. } => {
+            Message::OwnInfo(info) => {
+                here.greeting.hear_own_info(info);
+                self.memory.program.account.note_own_info(info)?;
+                self.hear_rated(Rated::of(info.rating, info.experience))?;
+            }
+            Message::WhoInfo(info) if self.memory.program.account.is_of(info.name.bytes()) => {
+                self.memory.program.account.note_rating(info.rating);
+                self.hear_rated(Rated::of(info.rating, info.experience))?;
+            }
+            Message::Welcome { name, .. } => {
                 here.situation.hear_welcome();
-                here.list.asked = ListAsked::Everybody;
+                here.greeting.hear_welcome();
+                here.list.asked = ListAsked::Login;
+                self.memory.program.reconnecting.hear_greeting();
+                self.memory.program.account.note_name(name.bytes())?;
+            }
+            Message::Says { name, .. } | Message::YouSay { name, .. } => {
+                let alloc = self.page.alloc;
+                here.company.note_speaker(alloc, name.bytes())?;
             }
             Message::Login { name, .. } => here.situation.hear_login(name.bytes()),
             Message::MotdBegin => here.situation.hear_motd(true),
@@ -206,37 +269,69 @@ impl<'a> Screen<'a> {
         Ok(())
     }
 
-    /// Hears a message.
-    fn hear_message(&mut self, message: &Message<'_>, moment: Moment) -> Result<(), AllocError> {
-        self.note_message(message)?;
-        if !self.memory.program.people.hides(message) {
-            self.show_message(message, moment)?;
+    /// How a player stands to the user, and what the user wants to see.
+    fn seen(&self, name: &[u8]) -> Seen {
+        let people = &self.memory.program.people;
+        let account = &self.memory.program.account;
+        let here = &self.memory.here;
+        Seen {
+            is_gagged: people.is_gagged(name),
+            is_own: account.name() == name,
+            is_known: is_same(here.situation.opponent.name.as_slice(), name)
+                || is_same(here.situation.inviter.name.as_slice(), name)
+                || here.company.has_spoken(name)
+                || account.has_saved(name),
+            is_quiet: people.is_quiet(),
+            arrivals: people.arrivals,
+            is_in_match: !is_free(here.situation.standing),
+            logs_in: !here.greeting.is_informed(),
         }
-        if let Message::Login { name, .. } = message {
-            let standing = self.memory.here.situation.standing;
-            return self
-                .memory
-                .program
-                .account
-                .say_here(name.bytes(), standing, &mut self.page);
-        }
-        Ok(())
     }
 
-    /// Shows a message.
-    fn show_message(&mut self, message: &Message<'_>, moment: Moment) -> Result<(), AllocError> {
+    /// Hears a message.
+    fn hear_message(&mut self, message: &Message<'_>, moment: Moment) -> Result<(), AllocError> {
+        let seen = self.seen(player_of(message));
+        let left_out = message_left_out(message, &seen);
+        self.note_message(message)?;
+        if left_out.is_none() {
+            let talk = &mut self.memory.program.talk;
+            say_message(message, moment, talk, &mut self.page)?;
+        }
         match message {
             Message::WhoInfo(info) => self.memory.here.list.hear_player(info),
-            Message::WhoInfoEnd => {
-                let is_quiet = self.memory.program.people.is_quiet();
-                self.memory.here.list.hear_end(is_quiet, &mut self.page)
+            Message::WhoInfoEnd => self.hear_list_end(),
+            Message::Login { name, .. } => {
+                let standing = self.memory.here.situation.standing;
+                let account = &self.memory.program.account;
+                account.say_here(name.bytes(), standing, &mut self.page)
             }
-            _ => say_message(
-                message,
-                moment,
-                &mut self.memory.program.talk,
-                &mut self.page,
-            ),
+            _ => Ok(()),
         }
+    }
+
+    /// A list of players has ended: its row, that of the player who has changed, or that which ends the login.
+    fn hear_list_end(&mut self) -> Result<(), AllocError> {
+        let left_out = change_left_out(&self.seen(self.memory.here.list.last_name()));
+        let here = &mut self.memory.here;
+        let own = self.memory.program.account.name();
+        if here.greeting.awaits_list() && here.list.is_of_login(own) {
+            here.greeting.hear_listed();
+            here.list.forget();
+            return self.say_greeting();
+        }
+        if here.list.is_of_everybody() {
+            here.list.forget();
+            let is_told = self.page.settings.words;
+            let asker = self.memory.program.account.asker(is_told);
+            let alloc = self.page.alloc;
+            let listed = here.company.listed();
+            let start = self.page.text.len();
+            append_players(alloc, listed, b"", &asker, &mut self.page.text)?;
+            if is_told {
+                break_at_spaces(start, self.page.columns(), &mut self.page.text);
+            }
+            return Ok(());
+        }
+        here.list.hear_end(left_out.is_none(), &mut self.page)
     }
 }

@@ -1,17 +1,19 @@
 //! What the user looks at before he decides: legal moves, and the board after a move.
-ghost use Rattle.std.specs.Prelude.{◌≡◌, ◌↔◌, ◌++◌, None, Some, OnOk, IfOk, IfSome};
+ghost use Rattle.std.specs.Prelude.{◌≡◌, ◌↔◌, ◌++◌, None, Some, OnOk, IfOk, IfSome, false, true};
 ghost use Rattle.fibs_position.specs.DecisionValue.{decision_of};
 ghost use Rattle.fibs_session.specs.History.Machine.{Talk, shown_now};
 ghost use Rattle.fibs_session.specs.Calls.Standing.{StandsAfter};
 ghost use Rattle.fibs_advice.specs.Trials.{tried, tried_on};
 ghost use Rattle.fibs_advice.specs.declared.trial.Trial.{Trial as AnyTrial};
 ghost use Rattle.fibs_terminal.specs.Asking.{SendsUntaken};
+ghost use Rattle.fibs_terminal.specs.Leaving.{NeverQuits};
+ghost use Rattle.fibs_terminal.specs.Sending.{SendsNoDecision};
 ghost use Rattle.fibs_terminal.specs.Boxes.{kept_looking};
-ghost use Rattle.fibs_terminal.specs.Trying.{IsTriedNow, SendsTried, ShowsTrial, command_by, go_row};
+ghost use Rattle.fibs_terminal.specs.Trying.{DrawsTrial, IsTriedNow, SendsTried, ShowsTrial, TellsTrial, command_by, go_row};
 
 use crate::commands::{say_no_game, set_line};
 use crate::drawing::append_picture;
-use fibs_advice::plays::{Listing, append_plays};
+use fibs_advice::plays::{Listing, Sheet, append_plays};
 use fibs_advice::trial::Trial;
 use fibs_commands::laws::read_command_is_exact;
 use fibs_connect::typed_line::TypedLine;
@@ -19,6 +21,7 @@ use fibs_connect::wish::Wish;
 use fibs_position::{Decision, Numbers};
 use fibs_session::Client;
 use fibs_wording::environment::Page;
+use fibs_wording::environment::broken::break_at_spaces;
 use std::alloc::AllocError;
 
 /// What is said if `plays` is followed by no place.
@@ -54,6 +57,44 @@ fn append_command(trial: &Trial, numbers: Numbers, text: &mut Vec<u8>) -> Result
     text.extend_from_slice(b"Not sent yet: go sends ")?;
     text.extend_from_slice(command.as_str().as_bytes())?;
     text.extend_from_slice(b"\n")
+}
+
+/// Appends the picture of the board after a move that is tried, and how it is sent.
+fn append_drawn(trial: &Trial, page: &mut Page<'_>) -> Result<(), AllocError>
+    ensures { page.old.settings.words ≡ false → OnOk result
+        (DrawsTrial page.old.settings trial.now page.old.text.items page.new.text.items) }
+{
+    let alloc = page.alloc;
+    append_picture(alloc, trial.after(), &page.settings, &mut page.text)?;
+    append_command(trial, page.settings.numbers, &mut page.text)?;
+    Ok(())
+}
+
+/// Appends in words what a move that is tried changes, and how it is sent.
+fn append_told(trial: &Trial, page: &mut Page<'_>) -> Result<(), AllocError>
+    ensures { OnOk result
+        (TellsTrial page.old.settings.numbers trial.now page.old.text.items page.new.text.items) }
+{
+    let alloc = page.alloc;
+    let start = page.text.len();
+    let numbers = page.settings.numbers;
+    trial.append_changes(alloc, numbers, &mut page.text)?;
+    append_command(trial, numbers, &mut page.text)?;
+    break_at_spaces(start, page.columns(), &mut page.text);
+    Ok(())
+}
+
+/// Appends what is shown of a move that is tried, and how it is sent.
+fn append_trial(trial: &Trial, page: &mut Page<'_>) -> Result<(), AllocError>
+    ensures drawn { page.old.settings.words ≡ false → OnOk result
+        (DrawsTrial page.old.settings trial.now page.old.text.items page.new.text.items) }
+    ensures told { page.old.settings.words ≡ true → OnOk result
+        (TellsTrial page.old.settings.numbers trial.now page.old.text.items page.new.text.items) }
+{
+    if page.settings.words {
+        return append_told(trial, page);
+    }
+    append_drawn(trial, page)
 }
 
 /// What the user looks at.
@@ -107,7 +148,12 @@ impl Looking {
             return page.say(WHICH_PLAYS);
         };
         let alloc = page.alloc;
-        self.plays = append_plays(alloc, game, page.settings.numbers, listing, &mut page.text)?;
+        let sheet = Sheet {
+            numbers: page.settings.numbers,
+            columns: page.columns(),
+            is_told: page.settings.words,
+        };
+        self.plays = append_plays(alloc, game, &sheet, listing, &mut page.text)?;
         Ok(())
     }
 
@@ -123,9 +169,7 @@ impl Looking {
         ensures kept { OnOk result (self.new.trial ≡ Some trial) }
         ensures shown { OnOk result (ShowsTrial page.old.settings trial page.old.text.items page.new.text.items) }
     {
-        let alloc = page.alloc;
-        append_picture(alloc, trial.after(), &page.settings, &mut page.text)?;
-        append_command(&trial, page.settings.numbers, &mut page.text)?;
+        append_trial(&trial, page)?;
         self.trial = Some(trial);
         Ok(())
     }
@@ -148,8 +192,10 @@ impl Looking {
         page: &mut Page<'_>,
     ) -> Result<Wish, AllocError>
         ensures untaken { SendsUntaken client.now line.new.items result }
+        ensures decides { SendsNoDecision client.now line.new.items result }
         ensures tried { IfOk result (λ wish. (t : Talk) → StandsAfter client.now t
             → SendsTried t self.now.trial wish line.new.items) }
+        ensures quits { NeverQuits result }
     {
         match self.tried_now(client) {
             Some(trial) => {

@@ -6,14 +6,19 @@ ghost use Rattle.fibs_terminal.specs.Tables.{IsNewStory, no_boards, none_drawn};
 
 use crate::account::Account;
 use crate::company::Company;
-use crate::drawing::Watching;
+use crate::drawing::{Above, Watching};
+use crate::listening::Greeting;
 use crate::looking::Looking;
 use crate::people::{List, People};
+use crate::reconnecting::Reconnecting;
 use crate::resting::Advising;
+use crate::results::Results;
 use crate::table::{KeptTable, Table};
 use crate::talk::Talk;
 use crate::title::Title;
+use fibs_advice::passing::Passing;
 use fibs_advice::situation::{Kept as KeptSituation, Situation};
+use fibs_position::Direction;
 use std::alloc::Global;
 use std::mem;
 use std::time::Duration;
@@ -36,8 +41,14 @@ pub struct Program {
     pub talk: Talk,
     /// Who the user is, and which of his matches are saved.
     pub account: Account,
+    /// What his matches have changed.
+    pub results: Results,
+    /// Whether a connection that has ended is opened again.
+    pub reconnecting: Reconnecting,
     /// The title of the window.
     pub title: Title,
+    /// The upper rows, in which the newest board stands.
+    pub above: Above,
     /// Whether a connection was made: then what can be done is said below each board.
     pub converses: bool,
 }
@@ -59,12 +70,21 @@ pub struct Connection {
     pub company: Company,
     /// The list of players that is coming.
     pub list: List,
+    /// What of the login has not come.
+    pub greeting: Greeting,
     /// When the connection was made.
     pub opened: Duration,
     /// The text of the server that was shown last, until a board comes.
     pub said: Vec<u8>,
     /// Which rule the move breaks that was typed last, until the next line is typed.
     pub rule: Vec<u8>,
+    /// How the decision goes to the server that was typed last, until the next line is typed.
+    pub passing: Passing,
+    /// Which way the user goes by the server's numbers on the board of his own game that came last: the client reads
+    /// what he types on that board, also if a match with somebody else has begun since.
+    pub direction: Option<Direction>,
+    /// Whether the last line that was sent asks for the moves of a game.
+    pub lists_moves: bool,
 }
 
 /// What outlives a connection: of the match that may have been saved, and of the game in it.
@@ -110,7 +130,10 @@ impl Program {
             people: People::new(alloc),
             talk: Talk::new(alloc),
             account: Account::new(alloc),
+            results: Results::new(),
+            reconnecting: Reconnecting::new(),
             title: Title::new(alloc),
+            above: Above::new(),
             converses: false,
         }
     }
@@ -152,9 +175,13 @@ impl Connection {
             looking,
             company: Company::new(alloc),
             list: List::new(alloc),
+            greeting: Greeting::new(),
             opened,
             said: Vec::new(alloc),
             rule: Vec::new(alloc),
+            passing: Passing::Asks,
+            direction: None,
+            lists_moves: false,
         }
     }
 

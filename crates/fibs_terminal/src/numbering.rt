@@ -1,7 +1,7 @@
 //! What the server says and hears in its numbers, as the user reads it in his.
 
 use crate::screen::Screen;
-use fibs_advice::moved::{append_moved, append_sent, names_steps, read_moved};
+use fibs_advice::moved::{append_moved, append_sent, has_step, names_steps, read_moved};
 use fibs_advice::situation::is_same;
 use fibs_fields::split::split;
 use fibs_fields::trailing_spaces::without_spaces;
@@ -47,8 +47,7 @@ impl<'a> Screen<'a> {
         command: &[u8],
         after: &[u8],
     ) -> Result<(), AllocError> {
-        let shown = self.memory.here.table.boards.direction();
-        let direction = shown.unwrap_or(Direction::Down);
+        let direction = self.memory.here.direction.unwrap_or(Direction::Down);
         let numbers = self.page.settings.numbers;
         let alloc = self.page.alloc;
         let mut sent = Vec::new(alloc);
@@ -63,17 +62,24 @@ impl<'a> Screen<'a> {
     }
 
     /// Shows a text of the server. Of a move the places have the numbers that the user reads; of other texts that name
-    /// places it says whose numbers they have, if those may be others.
+    /// places it says whose numbers they have, if those may be others: also of each row of the moves of a game that the
+    /// user has asked for, since it does not say which way he went in that.
     pub(crate) fn show_text(&mut self, said: &[u8]) -> Result<(), AllocError> {
         let numbers = self.page.settings.numbers;
+        if numbers == Numbers::TheServers {
+            return self.page.show_row(said);
+        }
+        if self.memory.here.lists_moves && has_step(said) {
+            return self.show_noted(said);
+        }
         let shown = self.shown_direction(said);
-        if numbers == Numbers::TheServers || shown == Some(Direction::Down) {
+        if shown == Some(Direction::Down) {
             return self.page.show_row(said);
         }
         let alloc = self.page.alloc;
-        let mut row = Vec::new(alloc);
         if let Some(direction) = shown {
             if let Some(moved) = read_moved(alloc, without_spaces(said), direction)? {
+                let mut row = Vec::new(alloc);
                 append_moved(moved.name, &moved.play, numbers.way(direction), &mut row)?;
                 return self.page.show_row(row.as_slice());
             }
@@ -81,7 +87,14 @@ impl<'a> Screen<'a> {
         if !names_steps(said) {
             return self.page.show_row(said);
         }
-        append_all(&[said, THE_SERVERS], &mut row)?;
+        self.show_noted(said)
+    }
+
+    /// Shows a text of the server, and says that the places that it names have the server's numbers.
+    fn show_noted(&mut self, said: &[u8]) -> Result<(), AllocError> {
+        let alloc = self.page.alloc;
+        let mut row = Vec::new(alloc);
+        append_all(&[without_spaces(said), THE_SERVERS], &mut row)?;
         self.page.show_row(row.as_slice())
     }
 }

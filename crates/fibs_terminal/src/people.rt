@@ -3,7 +3,7 @@ ghost use Rattle.fibs_terminal.specs.Boxes.{IsEmptyList};
 
 use fibs_fields::name::Name;
 use fibs_fields::split::split;
-use fibs_messages::{Message, WhoInfo};
+use fibs_messages::WhoInfo;
 use fibs_wording::environment::Page;
 use fibs_wording::environment::pieces::short_name;
 use fibs_wording::lists::append_count;
@@ -15,6 +15,8 @@ use std::alloc::{AllocError, Global};
 pub struct People {
     /// Whether shouts are hidden, and who comes and goes.
     pub quiet: bool,
+    /// Whether who comes and goes is shown, whatever the user does.
+    pub arrivals: bool,
     /// The players whose words are hidden.
     gagged: Vec<Vec<u8>>,
 }
@@ -24,44 +26,19 @@ impl People {
     pub fn new(alloc: Global) -> People {
         People {
             quiet: false,
+            arrivals: false,
             gagged: Vec::new(alloc),
         }
     }
 
     /// Whether the words of a player are hidden.
-    fn is_gagged(&self, name: &[u8]) -> bool {
+    pub fn is_gagged(&self, name: &[u8]) -> bool {
         for gagged in &self.gagged {
             if gagged.as_slice() == name {
                 return true;
             }
         }
         false
-    }
-
-    /// Whether a message is hidden: its player is gagged, or the screen is quiet and it is a shout, a login or a
-    /// logout.
-    pub fn hides(&self, message: &Message<'_>) -> bool {
-        match message {
-            Message::Shouts { name, .. }
-            | Message::Login { name, .. }
-            | Message::Logout { name, .. } => self.quiet || self.is_gagged(name.bytes()),
-            Message::Says { name, .. }
-            | Message::Whispers { name, .. }
-            | Message::Kibitzes { name, .. } => self.is_gagged(name.bytes()),
-            Message::MessageReceived { sender, .. } => self.is_gagged(sender.bytes()),
-            Message::MotdEnd => true,
-            Message::Welcome { .. }
-            | Message::OwnInfo(_)
-            | Message::MotdBegin
-            | Message::WhoInfo(_)
-            | Message::WhoInfoEnd
-            | Message::MessageDelivered { .. }
-            | Message::MessageSaved { .. }
-            | Message::YouSay { .. }
-            | Message::YouShout { .. }
-            | Message::YouWhisper { .. }
-            | Message::YouKibitz { .. } => false,
-        }
     }
 
     /// Hides what a player says. False if it is not a name.
@@ -100,17 +77,33 @@ impl People {
         page.say_all(&[short_name(name), b" is heard again.\n"])
     }
 
+    /// Hides shouts, and who comes and goes, in a match too.
+    pub fn hide_all(&mut self) {
+        self.quiet = true;
+        self.arrivals = false;
+    }
+
     /// Hides shouts, and who comes and goes, or shows them again.
     pub fn set_quiet(&mut self, quiet: bool, page: &mut Page<'_>) -> Result<(), AllocError> {
-        self.quiet = quiet;
-        page.say(if quiet {
-            b"quiet: no shouts, and not who comes and goes; loud shows them.\n"
+        if quiet {
+            self.hide_all();
+            return page.say(b"quiet: no shouts, and not who comes and goes; loud shows them.\n");
+        }
+        self.quiet = false;
+        page.say(b"loud: shouts, and who comes and goes; not in a match: arrivals shows that.\n")
+    }
+
+    /// Shows who comes and goes, also in a match; or in a match no longer.
+    pub fn set_arrivals(&mut self, page: &mut Page<'_>) -> Result<(), AllocError> {
+        self.arrivals = !self.arrivals;
+        page.say(if self.arrivals {
+            b"arrivals: who comes and goes is shown in a match too; arrivals again ends it.\n"
         } else {
-            b"loud: shouts, and who comes and goes.\n"
+            b"Who comes and goes is no longer shown in a match; arrivals shows it.\n"
         })
     }
 
-    /// Whether who has changed is not shown.
+    /// Whether the screen is quiet.
     pub fn is_quiet(&self) -> bool {
         self.quiet
     }
@@ -121,7 +114,9 @@ impl People {
 pub enum ListAsked {
     /// None.
     Nothing,
-    /// That of all players: of a login, or of `who`.
+    /// That of all players, which comes at a login.
+    Login,
+    /// That of all players, by `who`.
     Everybody,
     /// That of some players, as of `who ready` or `who bob`.
     Some,
@@ -136,6 +131,8 @@ pub struct List {
     count: usize,
     /// The row of the last of them.
     last: Vec<u8>,
+    /// The name of the last of them.
+    name: Vec<u8>,
 }
 
 impl List {
@@ -147,6 +144,7 @@ impl List {
             asked: ListAsked::Nothing,
             count: 0,
             last: Vec::new(alloc),
+            name: Vec::new(alloc),
         }
     }
 
@@ -160,22 +158,46 @@ impl List {
     /// A player was listed.
     pub fn hear_player(&mut self, info: &WhoInfo<'_>) -> Result<(), AllocError> {
         self.count = self.count.saturating_add(1);
+        self.name.clear();
+        self.name.extend_from_slice(info.name.bytes())?;
         self.last.clear();
         append_player(info, &mut self.last)
     }
 
-    /// A list has ended: one row for a list that was asked for, and one for a player who has changed, unless the screen
-    /// is quiet. What else has changed is in the list already. A player may have changed before all are listed.
-    pub fn hear_end(&mut self, is_quiet: bool, page: &mut Page<'_>) -> Result<(), AllocError> {
+    /// Who was listed last; empty if nobody was.
+    pub fn last_name(&self) -> &[u8] {
+        self.name.as_slice()
+    }
+
+    /// Whether it is the list that comes at a login: it has more than one who has changed, or the user alone.
+    pub fn is_of_login(&self, own: &[u8]) -> bool {
+        self.asked == ListAsked::Login
+            && (self.count > 1 || (self.count == 1 && self.name.as_slice() == own))
+    }
+
+    /// Whether it is the list of all players for which the user has asked.
+    pub fn is_of_everybody(&self) -> bool {
+        self.asked == ListAsked::Everybody && self.count > 1
+    }
+
+    /// The list has ended, and was told.
+    pub fn forget(&mut self) {
+        self.count = 0;
+        self.asked = ListAsked::Nothing;
+    }
+
+    /// A list has ended: one row for a list that was asked for, and one for a player who has changed, if that is shown.
+    /// What else has changed is in the list already. A player may have changed before all are listed.
+    pub fn hear_end(&mut self, is_shown: bool, page: &mut Page<'_>) -> Result<(), AllocError> {
         let (count, asked) = (self.count, self.asked);
         self.count = 0;
-        if asked != ListAsked::Everybody || count > 1 {
+        if count > 1 || asked == ListAsked::Some {
             self.asked = ListAsked::Nothing;
         }
         if count > 1 && asked != ListAsked::Nothing {
             append_count(count, &mut page.text)?;
             page.say(b": type players\n")
-        } else if count == 1 && (!is_quiet || asked == ListAsked::Some) {
+        } else if count == 1 && (is_shown || asked == ListAsked::Some) {
             page.say(self.last.as_slice())?;
             page.say(b"\n")
         } else {

@@ -2,7 +2,7 @@
 ghost use Rattle.std.specs.Prelude.{◌≡◌, true, false, OnOk};
 ghost use Rattle.fibs_advice.specs.Rows.{is_asked_for};
 ghost use Rattle.fibs_terminal.specs.Boxes.{IsQuiet};
-ghost use Rattle.fibs_terminal.specs.Resting.{SaysAdvice, SaysRow};
+ghost use Rattle.fibs_terminal.specs.Resting.{Rests, SaysRow};
 
 use crate::screen::{Moment, Screen};
 use fibs_advice::advised::{Advice, Aside, advised};
@@ -96,22 +96,28 @@ fn aside_of(situation: &Situation, directory: &Directory, passed: Duration) -> A
 }
 
 impl<'a> Screen<'a> {
-    /// Says what is advised.
+    /// Shows the board after a move that was sent, if no board has confirmed it and none stands above, and says what is
+    /// advised.
     pub(crate) fn rest(
         &mut self,
         client: &Client,
         directory: &Directory,
         moment: Moment,
     ) -> Result<(), AllocError>
-        ensures { OnOk result
-            (SaysAdvice client.now self.old.page.settings.numbers self.old.memory
+        ensures { OnOk result (Rests client.now self.old.page.settings self.old.memory
             self.old.page.text.items self.new.page.text.items) }
     {
+        let alloc = self.page.alloc;
+        let is_held = self.memory.program.above.is_held();
         let here = &mut self.memory.here;
+        let page = &mut self.page;
+        here.table
+            .boards
+            .show_sent_below(alloc, client, is_held, &page.settings, &mut page.text)?;
         let passed = moment.passed.saturating_sub(here.opened);
         let aside = aside_of(&here.situation, directory, passed);
-        let alloc = self.page.alloc;
         let advice = advised(alloc, client, &here.situation, aside)?;
-        here.advising.say(&advice, &here.situation, &mut self.page)
+        here.advising.say(&advice, &here.situation, page)?;
+        Ok(())
     }
 }

@@ -1,6 +1,7 @@
 //! A screen: what a terminal remembers, and the page that is written next.
 
 use crate::memory::Memory;
+use crate::record::Record;
 use fibs_wording::environment::{Page, Settings};
 use std::alloc::Global;
 use std::time::Duration;
@@ -19,6 +20,8 @@ pub struct Moment {
 pub struct Screen<'a> {
     pub page: Page<'a>,
     pub memory: Memory,
+    /// The file that keeps the matches that have ended.
+    pub record: Record<'a>,
     /// Memory ran out, and nothing was written since.
     pub ran_out: bool,
 }
@@ -33,6 +36,7 @@ impl<'a> Screen<'a> {
                 text: Vec::new(alloc),
             },
             memory: Memory::new(alloc),
+            record: Record::new(),
             ran_out: false,
         }
     }

@@ -1,10 +1,11 @@
 //! The match that is on the table, as its boards show it: which were drawn, the game so far, the title that tells it.
-ghost use Rattle.std.specs.Prelude.{◌≡◌, ◌≢◌, OnOk, [], false};
+ghost use Rattle.std.specs.Prelude.{◌≡◌, ◌≢◌, OnOk, [], None, false};
 ghost use Rattle.fibs_position.specs.GameOf.{game_of};
 ghost use Rattle.fibs_picture.specs.InWords.Titles.{title};
 ghost use Rattle.fibs_terminal.specs.Tables.{IsAnotherTable, IsNewStory, IsNewTable, kept_table, none_drawn};
 
 use crate::drawing::Boards;
+use crate::leaving::Leave;
 use crate::story::Story;
 use fibs_advice::situation::{KeptName, is_same, kept_name, nobody};
 use fibs_picture::in_words::write_title;
@@ -23,6 +24,8 @@ pub struct Table {
     pub story: Story,
     /// What the window's title tells of the game; empty if none is on the table.
     pub title: Vec<u8>,
+    /// By which word the user would leave it, if he was asked by the last line whether he does.
+    pub leave: Option<Leave>,
 }
 
 /// What outlives a connection: the game so far is of a match that may be resumed.
@@ -51,6 +54,7 @@ impl Table {
             boards: Boards::new(),
             story,
             title: Vec::new(alloc),
+            leave: None,
         }
     }
 
@@ -93,10 +97,12 @@ impl Table {
     /// it.
     pub fn begin_game(&mut self, alloc: Global, is_resumed: bool)
         ensures opponent { self.new.opponent ≡ self.old.opponent }
-        ensures boards { self.new.boards ≡ record self.old.boards { drawn = none_drawn } }
+        ensures boards { self.new.boards ≡ record self.old.boards { drawn = none_drawn; ending = None } }
         ensures next { is_resumed ≡ false → IsNewStory self.new.story }
         ensures none { IsNewStory self.old.story → IsNewStory self.new.story }
+        ensures leave { self.new.leave ≡ None }
     {
+        self.leave = None;
         self.boards.begin_game();
         if !is_resumed {
             self.story = Story::new(alloc);
@@ -105,8 +111,10 @@ impl Table {
 
     /// The match is no longer on the table. The board that came last still tells how its game ended.
     pub fn clear(&mut self, alloc: Global)
-        ensures { self.new.title.items ≡ [] }
+        ensures title { self.new.title.items ≡ [] }
+        ensures leave { self.new.leave ≡ None }
     {
+        self.leave = None;
         self.title = Vec::new(alloc);
     }
 }

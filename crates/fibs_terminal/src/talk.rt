@@ -1,8 +1,13 @@
 //! The talk of people that a terminal remembers.
 ghost use Rattle.std.specs.Prelude.{◌≡◌, IfOk};
 ghost use Rattle.fibs_terminal.specs.Asking.{SendsUntaken, tell_line};
+ghost use Rattle.fibs_terminal.specs.Leaving.{NeverQuits};
+ghost use Rattle.fibs_terminal.specs.Sending.{SendsNoDecision};
+
+mod as_typed;
 
 use crate::commands::set_line;
+pub(crate) use as_typed::goes_as_typed;
 use fibs_connect::typed_line::{TYPED_LIMIT, TypedLine};
 use fibs_connect::wish::Wish;
 use fibs_session::Client;
@@ -50,8 +55,12 @@ impl Talk {
         page: &mut Page<'_>,
     ) -> Result<Wish, AllocError>
         ensures sent { SendsUntaken client.now line.new.items result }
+        ensures decides { SendsNoDecision client.now line.new.items result }
         ensures told { IfOk result (λ wish. wish ≡ Wish.Say
             → line.new.items ≡ tell_line self.now.speaker.items text.now) }
+        ensures as_typed { IfOk result (λ wish. wish ≡ Wish.Send
+            → line.new.items ≡ tell_line self.now.speaker.items text.now) }
+        ensures quits { NeverQuits result }
     {
         if self.speaker.is_empty() || text.is_empty() {
             page.say(b"re TEXT: answers the player who spoke to you last, if one has.\n")?;
@@ -67,6 +76,9 @@ impl Talk {
             return Ok(Wish::TooLong);
         }
         set_line(line, told.as_slice());
+        if goes_as_typed(client, line.as_slice()) {
+            return Ok(Wish::Send);
+        }
         Ok(Wish::Say)
     }
 

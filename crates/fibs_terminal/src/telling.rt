@@ -1,14 +1,19 @@
 //! What a terminal shows of what is reported to it.
 ghost use Rattle.std.specs.Prelude.{◌≡◌};
 
+use crate::account::is_free;
 use crate::drawing::Watching;
 use crate::people::ListAsked;
 use crate::screen::{Moment, Screen};
+use fibs_advice::passing::Passing;
 use fibs_advice::plays::Listing;
+use fibs_advice::standing::Standing;
 use fibs_connect::said::Said;
+use fibs_fields::split::split;
 use fibs_position::GameBoard;
 use fibs_session::{CommandText, Outstanding, PlainRefusal, Refusal};
 use fibs_wording::environment::Page;
+use fibs_wording::environment::broken::break_at_spaces;
 use fibs_wording::environment::pieces::append_all;
 use fibs_wording::lists::append_row;
 use fibs_wording::reasons::{append_not_sent, append_reason, append_unnoted, refusal_words};
@@ -23,7 +28,15 @@ const ORDERED: &[u8] = b"ordered: the client rolls if you may not double\n";
 
 const WITHDRAWN: &[u8] = b"withdrawn: you roll yourself\n";
 
+/// What is said before a decision that was sent past the client.
+const SENT_AGAIN: &[u8] = b"sent again: ";
+
+const SENT_ON_WORD: &[u8] = b"sent on the server's word: ";
+
 pub(crate) const UNKNOWN: &[u8] = b"unknown: help lists the words\n";
+
+/// The server's word for the moves of a game.
+const OLD_MOVES: &[u8] = b"oldmoves";
 
 /// Shows the address of the server between these words.
 fn say_place(before: &[u8], after: &[u8], page: &mut Page<'_>) -> Result<(), AllocError> {
@@ -37,19 +50,21 @@ fn say_place(before: &[u8], after: &[u8], page: &mut Page<'_>) -> Result<(), All
 fn say_no_connection(why: ErrorKind, page: &mut Page<'_>) -> Result<(), AllocError> {
     say_place(b"no connection to ", b": ", page)?;
     if why == ErrorKind::NotFound {
-        return page.say(b"no address is known; open tries again\n");
+        return page.say(b"no address is known");
     }
     let alloc = page.alloc;
     let reason = why.to_string(alloc)?;
-    page.say_all(&[reason.as_bytes(), b"; open tries again\n"])
+    page.say(reason.as_bytes())
 }
 
 /// What is said of a refusal: of a move against the rules which rule it is, and of a decision for which a text of the
 /// server has called, that no board has.
-fn words_of(why: Refusal, rule: &[u8], is_told: bool) -> &[u8] {
+fn words_of(why: Refusal, rule: &[u8], standing: Standing) -> &[u8] {
     if why == Refusal::IllegalPlay && !rule.is_empty() {
         rule
-    } else if why == Refusal::NotYours && is_told {
+    } else if why == Refusal::NoBoard && !is_free(standing) {
+        b"The board of your game has not come yet."
+    } else if why == Refusal::NotYours && standing.is_told_by_text() {
         b"No board shows it yet."
     } else {
         refusal_words(why)
@@ -61,13 +76,16 @@ impl<'a> Screen<'a> {
     pub fn hear(&mut self, said: &Said<'_>, moment: Moment) -> Result<(), AllocError> {
         match said {
             Said::Opened => self.hear_opened(moment)?,
-            Said::NoConnection(why) => say_no_connection(*why, &mut self.page)?,
+            Said::NoConnection(why) => {
+                say_no_connection(*why, &mut self.page)?;
+                self.say_next_try()?;
+            }
             // its board is reported next
             Said::Heard(_, _, Some(_)) => {}
             Said::Heard(line, reading, None) => self.hear_line(line, reading, moment)?,
             Said::Game(game) => self.hear_game(game)?,
             Said::Confirmed(_) => self.memory.here.situation.hear_confirmed(),
-            Said::Lost(waited) => self.hear_lost(waited)?,
+            Said::Lost(waited) => self.hear_lost(waited, moment)?,
             Said::Unnoted(why) => {
                 append_unnoted(*why, &mut self.page.text)?;
                 self.page.say(b"\n")?;
@@ -92,6 +110,7 @@ impl<'a> Screen<'a> {
     /// Hears a board of the user's game.
     fn hear_game(&mut self, game: &GameBoard) -> Result<(), AllocError> {
         let alloc = self.page.alloc;
+        self.note_score(game.board());
         let converses = self.memory.program.converses;
         let here = &mut self.memory.here;
         here.advising.says_again = true;
@@ -100,10 +119,22 @@ impl<'a> Screen<'a> {
         }
         let asked = here.situation.awaits_board();
         here.situation.hear_board(game);
+        here.direction = Some(game.direction());
+        here.greeting.hear_board();
+        self.say_greeting()?;
+        let above = &mut self.memory.program.above;
+        let here = &mut self.memory.here;
         // its moves are listed from the first on
         here.looking.plays = Listing::of_all();
         here.watching = Watching::new();
         here.table.meet(alloc, game.board().opponent().bytes());
+        let start = self.page.text.len();
+        let numbers = self.page.settings.numbers;
+        let _hits = here
+            .table
+            .story
+            .append_hits(alloc, game, numbers, &mut self.page.text)?;
+        break_at_spaces(start, self.page.columns(), &mut self.page.text);
         here.table.story.hear_board(alloc, game)?;
         if converses {
             here.table.hear_title(game)?;
@@ -111,7 +142,7 @@ impl<'a> Screen<'a> {
         let said = here.said.as_slice();
         here.table
             .boards
-            .show(game, asked, converses, said, &mut self.page)?;
+            .show(game, asked, converses, said, above, &mut self.page)?;
         here.said = Vec::new(alloc);
         Ok(())
     }
@@ -131,13 +162,16 @@ impl<'a> Screen<'a> {
         let alloc = self.page.alloc;
         self.memory.change_connection(alloc, moment.passed);
         self.memory.program.converses = true;
+        self.memory.program.reconnecting.hear_opened();
         say_place(b"connected to ", b"\n", &mut self.page)
     }
 
     /// A command was sent: it is shown in full.
     fn hear_sent(&mut self, command: &CommandText) -> Result<(), AllocError> {
         let bytes = command.as_bytes();
+        self.memory.program.reconnecting.hear_sent(bytes);
         let here = &mut self.memory.here;
+        here.lists_moves = false;
         if here.situation.hear_sent(bytes) {
             here.advising.says_again = true;
         }
@@ -147,13 +181,31 @@ impl<'a> Screen<'a> {
         self.say_sent(b"sent ", bytes, b"")
     }
 
-    /// Says that a line was sent as it is.
+    /// Says that a line went past the client: as it is, or a decision for which the server has asked.
     fn say_passed(&mut self, line: &[u8]) -> Result<(), AllocError> {
+        self.memory.program.reconnecting.hear_sent(line);
+        self.memory.here.advising.says_again = true;
+        match self.memory.here.passing {
+            Passing::Again => self.say_on_word(SENT_AGAIN, line),
+            Passing::OnWord => self.say_on_word(SENT_ON_WORD, line),
+            Passing::Asks | Passing::Forbidden(_) => self.say_as_it_is(line),
+        }
+    }
+
+    /// Says that a decision was sent on the server's word.
+    fn say_on_word(&mut self, how: &[u8], line: &[u8]) -> Result<(), AllocError> {
+        self.memory.here.lists_moves = false;
+        self.memory.here.situation.hear_on_word();
+        self.say_sent(how, line, b"")
+    }
+
+    /// Says that a line was sent as it is.
+    fn say_as_it_is(&mut self, line: &[u8]) -> Result<(), AllocError> {
         let here = &mut self.memory.here;
         here.situation.hear_passed(line);
         here.watching.hear_passed(line);
         here.list.hear_passed(line);
-        here.advising.says_again = true;
+        here.lists_moves = split(line, b' ').0 == OLD_MOVES;
         self.page.say(b"sent as it is: ")?;
         self.page.show_row(line)
     }
@@ -163,15 +215,19 @@ impl<'a> Screen<'a> {
         ensures { self.new.memory.here.looking ≡ self.old.memory.here.looking }
     {
         self.memory.here.advising.inquired = true;
-        let is_told = self.memory.here.situation.standing.is_told_by_text();
-        let words = words_of(why, self.memory.here.rule.as_slice(), is_told);
+        let standing = self.memory.here.situation.standing;
+        let words = words_of(why, self.memory.here.rule.as_slice(), standing);
         let start = self.page.text.len();
         append_reason(words, why.number(), why, &mut self.page.text)?;
         self.page.end_row(start)
     }
 
     /// The connection is over.
-    fn hear_lost(&mut self, waited: &Option<Outstanding>) -> Result<(), AllocError> {
+    fn hear_lost(
+        &mut self,
+        waited: &Option<Outstanding>,
+        moment: Moment,
+    ) -> Result<(), AllocError> {
         self.page.ring()?;
         if let Some(asked) = waited {
             let command = asked.command();
@@ -181,8 +237,9 @@ impl<'a> Screen<'a> {
                 b" may have reached the server or not",
             )?;
         }
+        self.say_lost(moment)?;
         let alloc = self.page.alloc;
         self.memory.change_connection(alloc, Duration::from_secs(0));
-        self.page.say(b"lost: open connects again, quit ends\n")
+        Ok(())
     }
 }

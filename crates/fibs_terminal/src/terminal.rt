@@ -1,11 +1,14 @@
 //! A terminal: what happens is reported to it, and a player types at it.
 
-ghost use Rattle.std.specs.Prelude.{◌≡◌, OnOk, IfOk};
+ghost use Rattle.std.specs.Prelude.{◌≡◌, ◌++◌, OnOk, IfOk, List, ℕ};
 ghost use Rattle.std.specs.Io.KnownBytes.{Appends};
 ghost use Rattle.fibs_connect.specs.Wishes.{wish_value};
-ghost use Rattle.fibs_terminal.specs.Asking.{AsksInBounds, KnownGoesOn, SendsUntaken};
+ghost use Rattle.fibs_terminal.specs.Above.{given_back};
+ghost use Rattle.fibs_terminal.specs.Asking.{AsksInBounds, SendsUntaken};
 ghost use Rattle.fibs_terminal.specs.Grown.{Grown};
+ghost use Rattle.fibs_terminal.specs.Leaving.{KnownGoesOnOrAsks, QuitsOrAsks, TakesLeave, is_match_on};
 ghost use Rattle.fibs_terminal.specs.Resting.{ShowsAdvice};
+ghost use Rattle.fibs_terminal.specs.Sending.{SendsOnWord};
 ghost use Rattle.fibs_terminal.specs.Trying.{GoesOn, ShowsTried, WritesTry};
 
 use crate::screen::{Moment, Screen};
@@ -19,6 +22,7 @@ use fibs_engine::writing::write_bytes;
 use fibs_session::{Client, Directory};
 use fibs_wording::environment::Settings;
 use std::alloc::Global;
+use std::cell::Cell;
 use std::io::Write;
 use std::time::{Clock, Duration};
 
@@ -28,6 +32,10 @@ pub struct Terminal<'a, W: Write + Drop, C: Clock + Drop> {
     pub(crate) screen: Screen<'a>,
     pub(crate) clock: C,
     pub(crate) out: W,
+    /// Where it is said when a connection is opened again.
+    pub(crate) due: Option<&'a Cell<Option<Duration>>>,
+    /// Where it says that `board` is to be sent for the user.
+    asks_board: Option<&'a Cell<bool>>,
 }
 
 impl<'a, W: Write + Drop, C: Clock + Drop> Terminal<'a, W, C> {
@@ -39,13 +47,26 @@ impl<'a, W: Write + Drop, C: Clock + Drop> Terminal<'a, W, C> {
             screen: Screen::new(alloc, settings),
             clock,
             out,
+            due: None,
+            asks_board: None,
         }
     }
 
-    /// Puts back the title that the window had before.
+    /// From now on it says here, before the user types, that `board` is to be sent: once, if the user has asked to
+    /// watch a game, and the server has said that he does, and no board has come.
+    pub fn ask_for_boards(&mut self, asks_board: &'a Cell<bool>) {
+        self.asks_board = Some(asks_board);
+    }
+
+    /// Has all rows of the terminal scroll again, and puts back the title that the window had before.
     ///
     /// Errors: `Output` if a write fails.
-    pub fn leave(&mut self) -> Result<(), FrontFault> {
+    pub fn leave(&mut self) -> Result<(), FrontFault>
+        ensures back { OnOk result ((title : List ℕ) × Appends (W.contents self.old.out) (W.contents self.new.out)
+            (given_back self.old.screen.memory.program.above ++ title)) }
+        ensures held { OnOk result (self.new.screen.memory.program.above.held ≡ 0) }
+    {
+        write_text(self.screen.memory.program.above.give_back(), &mut self.out)?;
         write_text(self.screen.memory.program.title.put_back(), &mut self.out)?;
         self.out.flush().map_err(|_| FrontFault::Output)
     }
@@ -103,14 +124,18 @@ impl<W: Write + Drop, C: Clock + Drop> Words for Terminal<'_, W, C> {
 
     fn rest(&mut self, client: &Client, directory: &Directory) -> Result<(), FrontFault>
         ensures told { OnOk result (Grown (W.contents self.old.out) (W.contents self.new.out)) }
-        // It names only what may be advised in the state of the conversation, by the history.
-        ensures advice { OnOk result (ShowsAdvice client.now self.old.screen.page.settings.numbers
+        // It shows the board after the move that was sent, if none has confirmed it, and names only what may be advised
+        // in the state of the conversation, by the history.
+        ensures advice { OnOk result (ShowsAdvice client.now self.old.screen.page.settings
             self.old.screen.memory (W.contents self.old.out) (W.contents self.new.out)) }
     {
         self.screen.page.text.clear();
         let moment = moment_of(&self.clock);
         match self.screen.rest(client, directory, moment) {
             Ok(()) => {
+                let reconnecting = &mut self.screen.memory.program.reconnecting;
+                reconnecting.rest(moment.passed, self.due);
+                self.screen.memory.here.watching.ask_by(self.asks_board);
                 write_text(self.screen.page.text.as_slice(), &mut self.out)?;
                 self.out.flush().map_err(|_| FrontFault::Output)
             }
@@ -130,8 +155,20 @@ impl<W: Write + Drop, C: Clock + Drop> Words for Terminal<'_, W, C> {
         ensures told { OnOk result (Grown (W.contents self.old.out) (W.contents self.new.out)) }
         ensures asks { IfOk result (λ wish. AsksInBounds line.old.items (wish_value wish line.new.items)) }
         // A command is taken as it is meant by the numbers that the user reads, and never respelled if it is read so: a
-        // decision, an order, a line to people.
-        ensures known { KnownGoesOn client.now self.old.screen.page.settings.numbers
+        // decision, an order, a line to people. The client answers it, unless the server has asked for that decision.
+        // A `bye` in a match is answered by the terminal, if the line before was another one.
+        ensures known { KnownGoesOnOrAsks client.now self.old.screen.page.settings.numbers
+            self.old.screen.memory.here.situation.standing self.new.screen.memory.here.table.leave
+            line.old.items line.new.items result }
+        // In a match neither the program ends nor `bye` goes out, unless the line before was the same word and has
+        // asked about it. Any other line forgets what was asked, and the second one in a row is not asked about again.
+        ensures leave { IfOk result (λ wish. TakesLeave (is_match_on self.old.screen.memory)
+            self.old.screen.memory.here.table.leave self.new.screen.memory.here.table.leave line.new.items wish) }
+        // The line `quit` ends the program, or has asked.
+        ensures quit { QuitsOrAsks client.now self.new.screen.memory.here.table.leave line.old.items result }
+        // Without the word `send` a decision goes past the client only if a text or a board of the server asks for it,
+        // and the rules allow it.
+        ensures word { SendsOnWord client.now self.old.screen.memory.here.situation.standing
             line.old.items line.new.items result }
         // What goes to the server as it is, the client would not take.
         ensures sent { SendsUntaken client.now line.new.items result }
@@ -142,7 +179,7 @@ impl<W: Write + Drop, C: Clock + Drop> Words for Terminal<'_, W, C> {
         // After `go` the client answers the command of the move that was tried, if that was on the board that is shown.
         ensures went { GoesOn client.now self.old.screen.memory.here.looking.trial line.old.items line.new.items
             result }
-        // After `try` no move is kept but the one that was shown.
+        // After `try` no move is kept but the one that was shown, and nothing is sent.
         ensures shown { WritesTry client.now self.old.screen.page.settings line.old.items
             self.new.screen.memory.here.looking.trial (W.contents self.old.out) (W.contents self.new.out) result }
     {

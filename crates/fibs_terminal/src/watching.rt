@@ -21,18 +21,24 @@ impl<'a> Screen<'a> {
         let here = &mut self.memory.here;
         let asked = here.situation.awaits_board();
         let said = here.said.as_slice();
-        here.watching.show(&watched, asked, said, &mut self.page)?;
+        let converses = self.memory.program.converses;
+        let above = &mut self.memory.program.above;
+        here.watching
+            .show(&watched, asked, converses, said, above, &mut self.page)?;
         here.said = Vec::new(alloc);
         self.hear_no_board(false);
-        Ok(())
+        self.memory.here.greeting.hear_board();
+        self.say_greeting()
     }
 
     /// Takes note of what a text says of a game that the user watches.
     pub(crate) fn note_watching(&mut self, said: &[u8]) -> Result<(), AllocError> {
         match read_seen(said) {
             Some(Seen::Begins) => {
-                self.memory.here.watching = Watching::new();
-                return self.page.say(NO_BOARD_YET);
+                self.memory.here.watching = self.memory.here.watching.begun();
+                if !self.memory.here.watching.wants_board() {
+                    return self.page.say(NO_BOARD_YET);
+                }
             }
             Some(Seen::Ends) => self.memory.here.watching = Watching::new(),
             Some(Seen::Over(name)) if self.memory.here.watching.is_of(name) => {

@@ -1,22 +1,33 @@
 //! The boards of a terminal, and what it shows of one that comes.
-ghost use Rattle.std.specs.Prelude.{◌≡◌, IfSome};
+ghost use Rattle.std.specs.Prelude.{◌≡◌, ◌&&◌, ◌++◌, false, IfOk, IfSome, IsTrue, List, ℕ, None, OnOk, Some};
+ghost use Rattle.fibs_terminal.specs.Tellings.{has_told};
 ghost use Rattle.fibs_fields.specs.StoredBoard.{fields_of};
+ghost use Rattle.fibs_position.specs.GameOf.{game_of};
+ghost use Rattle.fibs_picture.specs.declared.in_words.told.Told.TheVariants as T;
+ghost use Rattle.fibs_terminal.specs.Above.{StandsOrNot};
+ghost use Rattle.fibs_terminal.specs.Drawings.{is_plain, TellsBoard, told_before};
+ghost use Rattle.fibs_terminal.specs.Leaving.{shows_end};
 ghost use Rattle.fibs_terminal.specs.Tables.{no_boards, none_drawn};
 
-use crate::drawing::outcomes::append_outcome;
+use crate::drawing::above::{Above, end_text};
+use crate::drawing::ending::Ending;
+use crate::drawing::outcomes::{append_outcome, ending_of};
 use crate::drawing::picture::{append_marked, arrivals_since};
+use crate::drawing::telling::told_before;
+use crate::leaving::is_match_over;
 use fibs_advice::situation::is_same;
 use fibs_fields::boards::Board;
 use fibs_fields::boards::fields::{
     FIRST_DIE, FIRST_PLACE, LAST_PLACE, OTHER_FIRST_DIE, OTHER_OFF, OTHER_SECOND_DIE, OWN_OFF,
     SECOND_DIE,
 };
-use fibs_picture::NO_ARRIVALS;
-use fibs_position::{Direction, GameBoard, Phase};
+use fibs_picture::in_words::{Told, append_told};
+use fibs_picture::{Arrivals, NO_ARRIVALS};
+use fibs_position::{GameBoard, Phase};
 use fibs_wording::environment::Page;
 use fibs_wording::environment::pieces::{append_all, short_name};
 use itoa::Buffer;
-use std::alloc::AllocError;
+use std::alloc::{AllocError, Global};
 
 /// The boards of a game that were drawn.
 #[derive(Clone, Copy)]
@@ -25,6 +36,8 @@ struct Drawn {
     last: Option<GameBoard>,
     /// The one before it, or before that one if no checker has moved.
     before: Option<GameBoard>,
+    /// The last one, if it was told in words, and in whose numbers.
+    told: Option<Told>,
 }
 
 impl Drawn {
@@ -35,6 +48,24 @@ impl Drawn {
         Drawn {
             last: None,
             before: None,
+            told: None,
+        }
+    }
+
+    /// The board that was drawn before this one, or before that one if no checker has moved.
+    fn before(&self, game: &GameBoard) -> Option<GameBoard> {
+        match &self.last {
+            Some(last) if is_played(last, game) => Some(*last),
+            _ => self.before,
+        }
+    }
+
+    /// The same, and this one was drawn.
+    fn with(&self, game: &GameBoard) -> Drawn {
+        Drawn {
+            last: Some(*game),
+            before: self.before(game),
+            told: None,
         }
     }
 }
@@ -46,6 +77,10 @@ pub struct Boards {
     drawn: Drawn,
     /// The board that came last.
     heard: Option<GameBoard>,
+    /// How the game has ended, if a row has told it, and no board has come since.
+    ending: Option<Ending>,
+    /// The board after the move that was sent last, if it was shown before the server has shown one.
+    ahead: Option<GameBoard>,
 }
 
 /// Whether a checker is elsewhere on another board, or the other board is of another opponent.
@@ -58,6 +93,19 @@ pub(crate) fn is_moved(a: &Board, b: &Board) -> bool {
     a.field(OWN_OFF) != b.field(OWN_OFF)
         || a.field(OTHER_OFF) != b.field(OTHER_OFF)
         || a.opponent().bytes() != b.opponent().bytes()
+}
+
+/// The same of boards of the user's game. Servers may have a bar beside the places or not: it follows from the others.
+fn is_played(a: &GameBoard, b: &GameBoard) -> bool {
+    let (one, other) = (a.position(), b.position());
+    for place in 1..25u8 {
+        if one.own(place) != other.own(place) || one.other(place) != other.other(place) {
+            return true;
+        }
+    }
+    a.board().field(OWN_OFF) != b.board().field(OWN_OFF)
+        || a.board().field(OTHER_OFF) != b.board().field(OTHER_OFF)
+        || a.board().opponent().bytes() != b.board().opponent().bytes()
 }
 
 /// Whether the player decides in a phase.
@@ -76,14 +124,31 @@ impl Boards {
         Boards {
             drawn: Drawn::new(),
             heard: None,
+            ending: None,
+            ahead: None,
         }
     }
 
     /// A game begins, or is resumed: its first board is drawn.
     pub fn begin_game(&mut self)
-        ensures { self.new ≡ record self.old { drawn = none_drawn } }
+        ensures { self.new ≡ record self.old { drawn = none_drawn; ending = None } }
     {
         self.drawn = Drawn::new();
+        self.ending = None;
+    }
+
+    /// Whether a text of the server says no more than the row did that has told how the game has ended.
+    ///
+    /// Errors: if memory runs out.
+    pub fn has_told(&self, alloc: Global, said: &[u8]) -> Result<bool, AllocError>
+        ensures { IfOk result (λ told. IsTrue told → has_told self.now said.now) }
+    {
+        match (&self.ending, &self.heard) {
+            (Some(ending), Some(heard)) => {
+                ending.tells(alloc, heard.board().opponent().bytes(), said)
+            }
+            _ => Ok(false),
+        }
     }
 
     /// The board that came last, if it is of a match with this opponent.
@@ -98,11 +163,13 @@ impl Boards {
         }
     }
 
-    /// Which way the user goes by the server's numbers on the board that came last.
-    pub fn direction(&self) -> Option<Direction> {
+    /// Whether the match is over by the board that came last.
+    pub fn show_end(&self) -> bool
+        ensures { result ≡ shows_end self.now.heard }
+    {
         match &self.heard {
-            None => None,
-            Some(heard) => Some(heard.direction()),
+            None => false,
+            Some(heard) => is_match_over(heard.board()),
         }
     }
 
@@ -122,6 +189,7 @@ impl Boards {
         asked: bool,
         is_above: bool,
         said: &[u8],
+        above: &mut Above,
         page: &mut Page<'_>,
     ) -> Result<(), AllocError> {
         let phase = game.phase();
@@ -135,41 +203,155 @@ impl Boards {
         if was_his && is_deciding(phase) {
             page.ring()?;
         }
-        if asked || self.is_drawn_whole(game.board(), phase) {
-            self.draw(game, is_above, page)?;
-        } else if !again {
+        if !again {
+            self.ahead = None;
+        }
+        let stands = is_above
+            && above.may_change(&page.settings)
+            && above.stand_game(game, &self.arrivals_at(game), page)?;
+        if !stands {
+            self.show_below(game, asked, is_above, again, said, page)?;
+            return self.keep(game, again, page);
+        }
+        let start = page.text.len();
+        if !again {
             say_board(game.board(), phase, said, page)?;
         }
-        if phase == Phase::Over && !again {
-            self.say_outcome(game.board(), page)?;
+        self.drawn = self.drawn.with(game);
+        self.keep(game, again, page)?;
+        end_text(start, page)
+    }
+
+    /// Draws a board if it is to be drawn, and says in a row what it is if that is not seen at once.
+    fn show_below(
+        &mut self,
+        game: &GameBoard,
+        asked: bool,
+        is_above: bool,
+        again: bool,
+        said: &[u8],
+        page: &mut Page<'_>,
+    ) -> Result<(), AllocError> {
+        let phase = game.phase();
+        let has_moved = is_above && !page.settings.words && self.has_moved(phase);
+        let is_whole = asked || self.is_drawn_whole(game, has_moved);
+        if is_whole {
+            self.draw(game, asked, is_above, page)?;
+        }
+        if again || (is_whole && !has_moved) {
+            return Ok(());
+        }
+        say_board(game.board(), phase, said, page)
+    }
+
+    /// Keeps the board that has come last. If it is the first that shows the end of the game, the outcome is said.
+    fn keep(
+        &mut self,
+        game: &GameBoard,
+        again: bool,
+        page: &mut Page<'_>,
+    ) -> Result<(), AllocError> {
+        if !again {
+            self.ending = None;
+            if game.phase() == Phase::Over {
+                self.say_outcome(game.board(), page)?;
+            }
         }
         self.heard = Some(*game);
         Ok(())
     }
 
-    /// Whether a board is drawn whole though the user has not asked for it: a checker has moved and there is something
-    /// to decide, or the game is over.
-    fn is_drawn_whole(&self, board: &Board, phase: Phase) -> bool {
+    /// Has the board that came last stand above, if it is to and can. False if none has come.
+    pub(crate) fn stand(&self, above: &mut Above, page: &mut Page<'_>) -> Result<bool, AllocError>
+        ensures { IfSome self.now.heard (λ heard. IfOk result (StandsOrNot page.old.settings false
+            (is_plain page.old.settings && false) (game_of heard) above.old above.new
+            page.old.text.items page.new.text.items)) }
+    {
+        match &self.heard {
+            None => Ok(false),
+            Some(heard) => above.stand_game(heard, &self.arrivals_at(heard), page),
+        }
+    }
+
+    /// Whether a board of this phase shows the user's own move.
+    fn has_moved(&self, phase: Phase) -> bool {
+        phase == Phase::OpponentActs && self.phase() == Some(Phase::Move)
+    }
+
+    /// Whether a board is drawn whole though the user has not asked for it: a checker has moved, and there is something
+    /// to decide, or the user has moved it, or the game is over.
+    fn is_drawn_whole(&self, game: &GameBoard, has_moved: bool) -> bool {
         let Some(drawn) = &self.drawn.last else {
             return true;
         };
-        let calls = is_deciding(phase) || phase == Phase::Over;
-        calls && is_moved(drawn.board(), board)
+        let phase = game.phase();
+        let calls = is_deciding(phase) || has_moved || phase == Phase::Over;
+        calls && is_played(drawn, game)
     }
 
-    /// Draws a board, and where the opponent has moved to since the board that was drawn before it.
+    /// Where the opponent has moved to on a board, since the board that was drawn before it.
+    fn arrivals_at(&self, game: &GameBoard) -> Arrivals {
+        match &self.drawn.before(game) {
+            Some(before) => arrivals_since(before, game),
+            None => NO_ARRIVALS,
+        }
+    }
+
+    /// Whether the board after the move that was sent was shown before, and no other one has come.
+    pub(crate) fn is_shown_ahead(&self, after: &GameBoard) -> bool {
+        match &self.ahead {
+            None => false,
+            Some(ahead) => ahead.board() == after.board(),
+        }
+    }
+
+    /// Takes note that this board was shown before the server has shown it: drawn, if boards are not told in words.
+    pub(crate) fn note_ahead(&mut self, after: &GameBoard, words: bool) {
+        self.ahead = Some(*after);
+        if !words {
+            self.drawn = self.drawn.with(after);
+        }
+    }
+
+    /// Tells a board in words: whole if the user has asked for it, else as he has it told. The next one follows it.
+    pub(crate) fn tell(
+        &mut self,
+        game: &GameBoard,
+        asked: bool,
+        page: &mut Page<'_>,
+    ) -> Result<(), AllocError>
+        ensures told { OnOk result ((t : List ℕ) × TellsBoard page.old.settings
+            (told_before page.old.settings asked self.old.drawn.told) (game_of game.now) t
+            × (page.new.text.items ≡ page.old.text.items ++ t)) }
+        ensures kept { OnOk result
+            (self.new.drawn.told ≡ Some (T.Game game.now page.old.settings.numbers)) }
+    {
+        let told = Told::Game(*game, page.settings.numbers);
+        let before = told_before(&page.settings, asked, self.drawn.told);
+        let alloc = page.alloc;
+        append_told(alloc, &before, &told, page.settings.columns, &mut page.text)?;
+        self.drawn.told = Some(told);
+        Ok(())
+    }
+
+    /// Draws a board, and where the opponent has moved to since the board that was drawn before it, or tells it.
     fn draw(
         &mut self,
         game: &GameBoard,
+        asked: bool,
         is_above: bool,
         page: &mut Page<'_>,
     ) -> Result<(), AllocError> {
         if let Some(drawn) = &self.drawn.last {
-            if is_moved(drawn.board(), game.board()) {
+            if is_played(drawn, game) {
                 self.drawn.before = Some(*drawn);
             }
         }
         self.drawn.last = Some(*game);
+        if page.settings.words {
+            return self.tell(game, asked, page);
+        }
+        self.drawn.told = None;
         let arrivals = match &self.drawn.before {
             Some(before) => arrivals_since(before, game),
             None => NO_ARRIVALS,
@@ -186,11 +368,13 @@ impl Boards {
     }
 
     /// Says how a game ended, by the board of its end.
-    fn say_outcome(&self, board: &Board, page: &mut Page<'_>) -> Result<(), AllocError> {
-        match &self.heard {
-            None => append_outcome(None, board, &mut page.text)?,
-            Some(before) => append_outcome(Some(before.board()), board, &mut page.text)?,
-        }
+    fn say_outcome(&mut self, board: &Board, page: &mut Page<'_>) -> Result<(), AllocError> {
+        let before = match &self.heard {
+            None => None,
+            Some(before) => Some(before.board()),
+        };
+        append_outcome(before, board, &mut page.text)?;
+        self.ending = ending_of(before, board);
         page.say(b"\n")
     }
 }

@@ -19,16 +19,19 @@ pub fn drawings_fit()
     fibs_picture::laws::picture_seen();
 }
 
-/// Boards that are told in the same words, each with a position, look the same.
+/// Boards that are told in the same words after the same ones before, each with a position, look the same: at any
+/// number of columns, in either numbers.
 pub fn tellings_tell()
     ensures { TellingsTell }
 {
     fibs_picture::in_words::laws::words_tell();
+    fibs_picture::in_words::laws::rows_join();
 }
 
-/// Watched boards that are told in the same words look the same (`SameToTheWatcher`).
+/// Watched boards that are told in the same words after the same ones before look the same (`SameToTheWatcher`).
 pub fn watched_tell()
     ensures { WatchedTellingsTell }
 {
     fibs_picture::in_words::laws::watched_words_tell();
+    fibs_picture::in_words::laws::rows_join();
 }

@@ -1,5 +1,6 @@
 //! How a game ended, in words.
 
+use crate::drawing::ending::Ending;
 use fibs_fields::boards::Board;
 use fibs_fields::boards::fields::{
     CUBE, MATCH_LENGTH, OTHER_OFF, OTHER_SCORE, OWN_OFF, OWN_SCORE, UNLIMITED,
@@ -139,8 +140,49 @@ fn append_winner(
     }
 }
 
+/// How the game of a board has ended, by the board that was shown before it, if it is known who has won and how many
+/// points.
+pub fn ending_of(before: Option<&Board>, board: &Board) -> Option<Ending> {
+    let (is_own, points) = match who_won(before, board) {
+        Winner::Own => (true, gained(before, board, OWN_SCORE)),
+        Winner::Other => (false, gained(before, board, OTHER_SCORE)),
+        Winner::Unknown => return None,
+    };
+    let own = field(board, OWN_SCORE);
+    let other = field(board, OTHER_SCORE);
+    let length = field(board, MATCH_LENGTH);
+    let (won, lost) = if is_own { (own, other) } else { (other, own) };
+    if points <= 0 {
+        return None;
+    }
+    Some(Ending {
+        is_own,
+        points: points.unsigned_abs(),
+        is_match: length != UNLIMITED && won >= length,
+        length: length.unsigned_abs(),
+        won: won.unsigned_abs(),
+        lost: lost.unsigned_abs(),
+    })
+}
+
+/// Appends that the match is over, by how many points.
+fn append_match(ending: &Ending, text: &mut Vec<u8>) -> Result<(), AllocError> {
+    append_all(
+        &[
+            b", and the ",
+            Buffer::new().format(ending.length).as_bytes(),
+            b" point match ",
+            Buffer::new().format(ending.won).as_bytes(),
+            b"-",
+            Buffer::new().format(ending.lost).as_bytes(),
+            b".",
+        ],
+        text,
+    )
+}
+
 /// Appends how the game of a board has ended, by the board that was shown before it. The board says that it is over.
-/// The score has a row of its own if the names are long.
+/// The score, or that of the match if that is over, has a row of its own if the names are long.
 pub fn append_outcome(
     before: Option<&Board>,
     board: &Board,
@@ -148,8 +190,11 @@ pub fn append_outcome(
 ) -> Result<(), AllocError> {
     let start = text.len();
     append_winner(before, board, text)?;
-    let full_stop = text.len();
-    append_score(board, text)?;
-    break_row(start, full_stop.saturating_add(1), text);
+    let end = text.len();
+    match ending_of(before, board) {
+        Some(ending) if ending.is_match => append_match(&ending, text)?,
+        _ => append_score(board, text)?,
+    }
+    break_row(start, end.saturating_add(1), text);
     Ok(())
 }

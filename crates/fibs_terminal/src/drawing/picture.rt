@@ -1,12 +1,10 @@
 //! The picture of a board of the user's game, as the terminal has it, and what of the opponent's has come.
-ghost use Rattle.std.specs.Prelude.{◌≡◌, ◌&&◌, ◌++◌, OnOk, List, ℕ, not, true, false};
+ghost use Rattle.std.specs.Prelude.{◌≡◌, ◌&&◌, ◌++◌, OnOk, List, None, ℕ, not, true, false};
 ghost use Rattle.fibs_position.specs.GameOf.{game_of};
-ghost use Rattle.fibs_position.specs.declared.numbers.Numbers.TheVariants.{TheServers};
-ghost use Rattle.fibs_terminal.specs.Drawings.{Draws, is_plain, TellsBoard, is_worded};
+ghost use Rattle.fibs_terminal.specs.Drawings.{Draws, is_plain, TellsBoard};
 
 use crate::drawing::look::{is_plain, look_of};
-use crate::drawing::turned::in_numbers;
-use crate::drawing::worded::append_words;
+use fibs_picture::in_words::{Told, append_told};
 use fibs_picture::{Arrivals, NO_ARRIVALS, append_game};
 use fibs_position::GameBoard;
 use fibs_wording::environment::Settings;
@@ -54,8 +52,8 @@ pub fn append_picture(
     ensures drawn { settings.now.words ≡ false → OnOk result ((t : List ℕ)
         × Draws settings.now false (is_plain settings.now) (game_of game.now) t
         × (text.new.items ≡ text.old.items ++ t)) }
-    ensures told { settings.now.numbers ≡ TheServers → is_worded settings.now ≡ true → OnOk result ((t : List ℕ)
-        × TellsBoard (game_of game.now) t × (text.new.items ≡ text.old.items ++ t)) }
+    ensures told { settings.now.words ≡ true → OnOk result ((t : List ℕ)
+        × TellsBoard settings.now None (game_of game.now) t × (text.new.items ≡ text.old.items ++ t)) }
 {
     append_marked(alloc, game, &NO_ARRIVALS, settings, false, text)
 }
@@ -73,12 +71,12 @@ pub fn append_marked(
     ensures drawn { settings.now.words ≡ false → OnOk result ((t : List ℕ)
         × Draws settings.now false (is_plain settings.now && not is_above) (game_of game.now) t
         × (text.new.items ≡ text.old.items ++ t)) }
-    ensures told { settings.now.numbers ≡ TheServers → is_worded settings.now ≡ true → OnOk result ((t : List ℕ)
-        × TellsBoard (game_of game.now) t × (text.new.items ≡ text.old.items ++ t)) }
+    ensures told { settings.now.words ≡ true → OnOk result ((t : List ℕ)
+        × TellsBoard settings.now None (game_of game.now) t × (text.new.items ≡ text.old.items ++ t)) }
 {
     if settings.words {
-        let told = in_numbers(game, settings.numbers);
-        return append_words(alloc, &told, settings.columns, text);
+        let told = Told::Game(*game, settings.numbers);
+        return append_told(alloc, &None, &told, settings.columns, text);
     }
     let look = look_of(settings);
     let is_wanted = is_deed_wanted(settings, is_above);

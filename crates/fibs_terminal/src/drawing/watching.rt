@@ -1,19 +1,30 @@
 //! What a terminal shows of a game that the user watches.
-ghost use Rattle.std.specs.Prelude.{◌≡◌};
-ghost use Rattle.fibs_terminal.specs.Boxes.{nothing_watched};
+ghost use Rattle.std.specs.Prelude.{◌≡◌, ◌++◌, List, ℕ, OnOk, Some, true};
+ghost use Rattle.fibs_position.specs.WatchedOf.{watched_of};
+ghost use Rattle.fibs_picture.specs.declared.in_words.told.Told.TheVariants as T;
+ghost use Rattle.fibs_terminal.specs.Boxes.{begun_watching, nothing_watched};
+ghost use Rattle.fibs_terminal.specs.Drawings.{told_before};
+ghost use Rattle.fibs_terminal.specs.WatchedDrawings.{TellsWatched};
 
+use crate::drawing::above::{Above, end_text};
 use crate::drawing::boards::{append_dice, is_moved};
+use crate::drawing::telling::told_before;
 use crate::drawing::watched::append_watched;
 use fibs_fields::boards::Board;
 use fibs_fields::boards::fields::{
     COLOUR, FIRST_DIE, OTHER_FIRST_DIE, OTHER_SECOND_DIE, SECOND_DIE, TURN, WAS_DOUBLED,
 };
+use fibs_picture::in_words::{Told, append_told};
 use fibs_position::WatchedBoard;
 use fibs_wording::environment::Page;
 use std::alloc::AllocError;
+use std::cell::Cell;
 
 /// How many bytes of a name are said: with two names a row fits 79 columns.
 const NAME_ROOM: usize = 22;
+
+/// How the line begins by which the user asks to watch a game.
+const WATCH: &[u8] = b"watch ";
 
 /// A game that the user watches.
 #[derive(Drop)]
@@ -22,8 +33,23 @@ pub struct Watching {
     heard: Option<WatchedBoard>,
     /// The board that was drawn last.
     drawn: Option<WatchedBoard>,
+    /// The last one, if it was told in words, and in whose numbers.
+    told: Option<Told>,
     /// Whether the user has sent `unwatch`, and the server has not answered.
     is_ending: bool,
+    /// What is to be asked for.
+    wanted: Wanted,
+}
+
+/// Whether a board of a game is to be asked for: once, after the user has asked to watch it.
+#[derive(Clone, Copy, PartialEq, Eq)]
+enum Wanted {
+    /// None is.
+    Nothing,
+    /// One will be, if the server says that the user watches.
+    IfWatched,
+    /// One is.
+    Board,
 }
 
 /// What is said of a name beside another one.
@@ -44,7 +70,36 @@ impl Watching {
         Watching {
             heard: None,
             drawn: None,
+            told: None,
             is_ending: false,
+            wanted: Wanted::Nothing,
+        }
+    }
+
+    /// The server says that the user watches a game: nothing of it was shown. A board of it is to be asked for, if the
+    /// user has asked to watch since a board came.
+    pub fn begun(&self) -> Watching
+        ensures { result ≡ begun_watching self.now }
+    {
+        let mut begun = Watching::new();
+        if self.wanted != Wanted::Nothing {
+            begun.wanted = Wanted::Board;
+        }
+        begun
+    }
+
+    /// Whether a board is to be asked for.
+    pub fn wants_board(&self) -> bool {
+        self.wanted == Wanted::Board
+    }
+
+    /// Says here that a board is to be asked for, once, if one is.
+    pub fn ask_by(&mut self, asks_board: Option<&Cell<bool>>) {
+        if self.wants_board() {
+            self.wanted = Wanted::Nothing;
+            if let Some(asks_board) = asks_board {
+                asks_board.set(true);
+            }
         }
     }
 
@@ -57,6 +112,9 @@ impl Watching {
     pub fn hear_passed(&mut self, line: &[u8]) {
         if line == b"unwatch".as_slice() {
             self.is_ending = true;
+        }
+        if line.starts_with(WATCH) {
+            self.wanted = Wanted::IfWatched;
         }
     }
 
@@ -71,12 +129,15 @@ impl Watching {
         }
     }
 
-    /// Shows a board. A text of the server that says the same is not said again.
+    /// Shows a board: above, in a conversation, if it is to stand there. A text of the server that says the same is not
+    /// said again.
     pub fn show(
         &mut self,
         watched: &WatchedBoard,
         asked: bool,
+        converses: bool,
         said: &[u8],
+        above: &mut Above,
         page: &mut Page<'_>,
     ) -> Result<(), AllocError> {
         let board = watched.board();
@@ -84,18 +145,76 @@ impl Watching {
             None => (false, true),
             Some(heard) => (heard.board() == board, !is_same_pair(heard.board(), board)),
         };
-        if asked || self.is_drawn_whole(board) {
-            let alloc = page.alloc;
-            append_watched(alloc, watched, &page.settings, &mut page.text)?;
-            self.drawn = Some(*watched);
+        let stands = converses && above.stand_watched(watched, page)?;
+        let start = page.text.len();
+        if stands {
+            self.note_drawn(watched);
+        }
+        if !stands && (asked || self.is_drawn_whole(board)) {
+            self.draw(watched, asked || is_new, page)?;
         } else if !again {
             say_board(board, said, page)?;
         }
         self.heard = Some(*watched);
+        self.wanted = Wanted::Nothing;
         if asked || is_new {
-            return self.say_hint(page);
+            self.say_hint(page)?;
+        }
+        if stands {
+            return end_text(start, page);
         }
         Ok(())
+    }
+
+    /// Has the board that came last stand above, if it is to and can. False if none has come.
+    pub fn stand(&self, above: &mut Above, page: &mut Page<'_>) -> Result<bool, AllocError> {
+        match &self.heard {
+            None => Ok(false),
+            Some(heard) => above.stand_watched(heard, page),
+        }
+    }
+
+    /// A board was drawn.
+    fn note_drawn(&mut self, watched: &WatchedBoard) {
+        self.drawn = Some(*watched);
+        self.told = None;
+    }
+
+    /// Tells a board in words: whole if the user has asked for it or it is of other players, else as he has it told.
+    /// The next one follows it.
+    pub(crate) fn tell(
+        &mut self,
+        watched: &WatchedBoard,
+        whole: bool,
+        page: &mut Page<'_>,
+    ) -> Result<(), AllocError>
+        ensures told { OnOk result ((t : List ℕ) × TellsWatched page.old.settings
+            (told_before page.old.settings whole self.old.told) (watched_of watched.now) t
+            × (page.new.text.items ≡ page.old.text.items ++ t)) }
+        ensures kept { OnOk result (self.new.told ≡ Some (T.Watched watched.now page.old.settings.numbers)) }
+    {
+        let told = Told::Watched(*watched, page.settings.numbers);
+        let before = told_before(&page.settings, whole, self.told);
+        let alloc = page.alloc;
+        append_told(alloc, &before, &told, page.settings.columns, &mut page.text)?;
+        self.told = Some(told);
+        Ok(())
+    }
+
+    /// Draws a board, or tells it.
+    fn draw(
+        &mut self,
+        watched: &WatchedBoard,
+        whole: bool,
+        page: &mut Page<'_>,
+    ) -> Result<(), AllocError> {
+        if page.settings.words {
+            self.drawn = Some(*watched);
+            return self.tell(watched, whole, page);
+        }
+        self.note_drawn(watched);
+        let alloc = page.alloc;
+        append_watched(alloc, watched, &page.settings, &mut page.text)
     }
 
     /// Whether a board is drawn whole: a checker has moved, or the players are others.

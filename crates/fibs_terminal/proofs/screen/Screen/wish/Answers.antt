@@ -1,18 +1,23 @@
-use Rattle.std.proofs.Common.{◌∙◌}
-use Rattle.fibs_terminal.proofs.TryingLemmas.{goes_on, never_go, never_known}
+use Rattle.fibs_terminal.proofs.LeavingLemmas.{asked_leaves, known_asked, went_asked}
 use Rattle.fibs_terminal.proofs.screen.Screen.wish.Goals as goal
 
-pub returns-then-is_command_by-clause-known : goal.returns-then-is_command_by-clause-known
-returns-then-is_command_by-clause-known c t stands known =
-    goes_on c.args.self.now.page.settings.numbers t c.args.line.now.items c.set_meant.new.line.items
-    (c.set_meant.ensures t stands) known
+pub returns-in_ok-say_leave-in-Some-clause-known : goal.returns-in_ok-say_leave-in-Some-clause-known
+returns-in_ok-say_leave-in-Some-clause-known c =
+    let after = c.wish_line.new.line.items in
+    let wish = c.in_ok-wish.wish in
+    let word = c.in-Some.leave in
+    known_asked c.args.client.now c.args.self.now.page.settings.numbers
+    c.args.self.now.memory.here.situation.standing c.args.line.now.items after wish word
+    (asked_leaves c.is_match_on-is_on.result c.args.self.now.memory.here.table.leave c.leave_of.result
+    c.as_slice.result.now after wish word c.leave_of.ensures c.as_slice.ensures.value c.in-Some.ensures)
+    c.in_ok-wish.ensures.asks c.in_ok-wish.ensures.known
 
-pub returns-then-is_command_by-clause-went : goal.returns-then-is_command_by-clause-went
-returns-then-is_command_by-clause-went c same t stands =
-    absurd (never_go c.args.self.now.page.settings.numbers t c.as_slice.result.now (c.as_slice.ensures.value ∙ same)
-    (c.if-is_command_by.ensures t stands))
-
-pub returns-then-is_command_by-clause-shown : goal.returns-then-is_command_by-clause-shown
-returns-then-is_command_by-clause-shown c is_try = absurd (never_known c.args.self.now.page.settings.numbers is_try.talk
-    c.args.line.now.items c.as_slice.result.now c.as_slice.ensures.value
-    (c.if-is_command_by.ensures is_try.talk is_try.stands) is_try.unknown)
+pub returns-in_ok-say_leave-in-Some-clause-went : goal.returns-in_ok-say_leave-in-Some-clause-went
+returns-in_ok-say_leave-in-Some-clause-went c =
+    let after = c.wish_line.new.line.items in
+    let wish = c.in_ok-wish.wish in
+    let word = c.in-Some.leave in
+    went_asked c.args.client.now c.args.self.now.memory.here.looking.trial c.args.line.now.items after wish word
+    (asked_leaves c.is_match_on-is_on.result c.args.self.now.memory.here.table.leave c.leave_of.result
+    c.as_slice.result.now after wish word c.leave_of.ensures c.as_slice.ensures.value c.in-Some.ensures)
+    c.in_ok-wish.ensures.went

@@ -1,0 +1,8 @@
+use Rattle.fibs_position.specs.GameOf.{game_of}
+use Rattle.fibs_terminal.proofs.TryingLemmas.{trial_drawn}
+use Rattle.fibs_terminal.proofs.looking.append_drawn.Goals as goal
+
+pub returns : goal.returns
+returns c plain = trial_drawn c.args.page.now.settings c.args.trial.now (game_of c.after.result.now)
+    c.args.page.now.text.items c.append_picture.new.text.items c.append_command.new.text.items c.after.ensures
+    (c.in_ok-append_picture.ensures.drawn plain) c.in_ok-append_command.ensures

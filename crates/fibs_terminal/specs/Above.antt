@@ -1,0 +1,78 @@
+-- What a terminal is sent so that the newest board stands in its upper rows, and what is said scrolls below (control
+-- sequences of ECMA-48: CUU, CUD, CUP, ED, EL and IL; DECSTBM, DECSC and DECRC of the VT100).
+use Rattle.std.specs.Prelude.{◌≡◌, ◌≤◌, ◌++◌, ◌+◌, ◌==◌, ℕ, List, [], ◌∷◌, Bool, true, false, codes, decimal, count_by, min, take, if◌then◌else◌}
+use Rattle.fibs_lines.specs.Lines.{is_line_end}
+use Rattle.fibs_fields.specs.Board.{BoardFields}
+use Rattle.fibs_wording.specs.declared.environment.settings.Settings.{Settings}
+use Rattle.fibs_terminal.specs.Drawings.{Draws}
+use Rattle.fibs_terminal.specs.declared.drawing.above.Above.{Above}
+
+-- ---- what is sent
+
+-- a control sequence of one number
+unfoldable pub control : ℕ → ℕ → List ℕ
+control n final = 27 ∷ 91 ∷ (decimal n ++ final ∷ [])
+
+-- to the upper left
+abbrev pub goes_home : List ℕ
+goes_home = 27 ∷ codes "[H"
+
+-- keeps where the cursor is
+abbrev pub keeps_cursor : List ℕ
+keeps_cursor = 27 ∷ codes "7"
+
+-- puts it there again, and then down to the last row
+abbrev pub puts_cursor : List ℕ
+puts_cursor = 27 ∷ (codes "8" ++ 27 ∷ codes "[999B")
+
+-- so many rows are free below the cursor, which stays in its row: 24 at most
+unfoldable pub frees_below : ℕ → List ℕ
+frees_below n = take (min n 24) (codes "\n\n\n\n\n\n\n\n\n\n\n\n\n\n\n\n\n\n\n\n\n\n\n\n") ++ control (min n 24) 65
+
+-- so many rows move down
+unfoldable pub moves_down : ℕ → List ℕ
+moves_down n = goes_home ++ control n 76
+
+-- the rows up to this one are free and stay, while those below scroll; then to the upper left
+unfoldable pub frees_upper : ℕ → List ℕ
+frees_upper n = control (n + 1) 114 ++ (control n 72 ++ (27 ∷ codes "[1J" ++ (27 ∷ codes "[2K" ++ goes_home)))
+
+-- a picture stands in the upper rows, with a free row below so many; if none stood there, what was said moves down
+unfoldable pub placed : Bool → ℕ → List ℕ → List ℕ
+placed is_first rows picture =
+    (if is_first then frees_below (rows + 1) else [])
+    ++ (keeps_cursor ++ ((if is_first then moves_down (rows + 1) else [])
+    ++ (frees_upper (rows + 1) ++ (picture ++ puts_cursor))))
+
+-- all rows scroll
+unfoldable pub all_scroll : List ℕ
+all_scroll = 27 ∷ (codes "7" ++ 27 ∷ (codes "[r" ++ 27 ∷ codes "8"))
+
+-- all rows scroll again, if they did not
+abbrev pub given_back : Above → List ℕ
+given_back a = if a.held == 0 then [] else all_scroll
+
+-- ---- what stands there
+
+-- how many rows there are below at least, with the free one
+abbrev pub least_below : ℕ
+least_below = 9
+
+-- the picture of a board stands there, which has no more rows than are kept for it: so none of it scrolls
+pub record Stands (s : Settings) (watched wanted : Bool) (b : BoardFields) (old now : Above) (before after : List ℕ)
+    : Type 0 where
+  pub picture : List ℕ
+  pub drawn : Draws s watched wanted b picture
+  pub fits : count_by is_line_end picture ≤ now.held
+  pub room : now.held + least_below ≤ s.rows
+  pub text_is : after ≡ before ++ placed (old.held == 0) now.held picture
+
+-- or none does, and all rows scroll
+pub record StandsNot (old now : Above) (before after : List ℕ) : Type 0 where
+  pub held : now.held ≡ 0
+  pub text_is : after ≡ before ++ given_back old
+
+-- one of the two
+abbrev pub StandsOrNot : Settings → Bool → Bool → BoardFields → Above → Above → List ℕ → List ℕ → Bool → Type 0
+StandsOrNot s watched wanted b old now before after true = Stands s watched wanted b old now before after
+StandsOrNot s watched wanted b old now before after false = StandsNot old now before after

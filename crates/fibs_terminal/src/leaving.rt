@@ -1,0 +1,166 @@
+//! How the user takes leave of a match: the first line that does is only answered, the second one in a row does it.
+ghost use Rattle.std.specs.Prelude.{◌≡◌, IfOk, OnOk};
+ghost use Rattle.fibs_fields.specs.StoredBoard.{fields_of};
+ghost use Rattle.fibs_advice.specs.Situations.{is_match_over, is_won};
+ghost use Rattle.fibs_connect.specs.Wishes.{wish_value};
+ghost use Rattle.fibs_terminal.specs.Asking.{AsksInBounds, SendsUntaken};
+ghost use Rattle.fibs_terminal.specs.Leaving.{KnownGoesOnOrAsks, QuitsOrAsks, TakesLeave, asked_first, is_again, is_match_on, leave_of, leave_word};
+ghost use Rattle.fibs_terminal.specs.Sending.{SendsOnWord};
+ghost use Rattle.fibs_terminal.specs.Trying.{GoesOn, ShowsTry, TriesOrKeeps};
+
+use crate::account::is_free;
+use crate::memory::Memory;
+use crate::screen::Screen;
+use fibs_connect::typed_line::TypedLine;
+use fibs_connect::wish::Wish;
+use fibs_fields::boards::Board;
+use fibs_fields::boards::fields::{MATCH_LENGTH, OTHER_SCORE, OWN_SCORE, UNLIMITED};
+use fibs_session::{Client, Directory};
+use fibs_wording::environment::Page;
+use fibs_wording::environment::pieces::short_name;
+use std::alloc::AllocError;
+
+/// A word by which the user takes leave.
+#[derive(Clone, Copy, Debug, PartialEq, Eq)]
+pub enum Leave {
+    /// The program ends.
+    Quit,
+    /// The server ends the connection.
+    Bye,
+}
+
+impl Leave {
+    /// The word.
+    fn word(self) -> &'static [u8]
+        ensures { result.now ≡ leave_word self }
+    {
+        match self {
+            Leave::Quit => b"quit",
+            Leave::Bye => b"bye",
+        }
+    }
+}
+
+/// By which word a line takes leave that asks for this, if it does.
+fn leave_of(wish: Wish, line: &[u8]) -> Option<Leave>
+    ensures { result ≡ leave_of wish line.now }
+{
+    match wish {
+        Wish::Quit => Some(Leave::Quit),
+        Wish::Say => {
+            if line == b"bye".as_slice() {
+                Some(Leave::Bye)
+            } else {
+                None
+            }
+        }
+        _ => None,
+    }
+}
+
+/// Whether the user was asked by the last line about the word by which he takes leave now.
+fn is_again(before: Option<Leave>, now: Option<Leave>) -> bool
+    ensures { result ≡ is_again before now }
+{
+    match (before, now) {
+        (Some(Leave::Quit), Some(Leave::Quit)) | (Some(Leave::Bye), Some(Leave::Bye)) => true,
+        _ => false,
+    }
+}
+
+/// About which word the user is asked now: the one by which he takes leave, if a match is on and he was not.
+fn asked_first(is_on: bool, before: Option<Leave>, now: Option<Leave>) -> Option<Leave>
+    ensures { result ≡ asked_first is_on before now }
+{
+    if is_on && !is_again(before, now) {
+        now
+    } else {
+        None
+    }
+}
+
+/// Whether a match of this length is over, in which the sides have these points.
+fn is_won(length: i32, own: i32, other: i32) -> bool
+    ensures { result ≡ is_won length own other }
+{
+    length != UNLIMITED && (length <= own || length <= other)
+}
+
+/// Whether the match of a board is over.
+pub(crate) fn is_match_over(board: &Board) -> bool
+    ensures { result ≡ is_match_over (fields_of board.now) }
+{
+    is_won(
+        board.field(MATCH_LENGTH),
+        board.field(OWN_SCORE),
+        board.field(OTHER_SCORE),
+    )
+}
+
+/// Asks whether the user leaves his match with an opponent, whose name may not be known.
+fn say_leave(leave: Leave, opponent: &[u8], page: &mut Page<'_>) -> Result<(), AllocError> {
+    let start = page.text.len();
+    page.say(b"You are in a match")?;
+    if !opponent.is_empty() {
+        page.say_all(&[b" with ", short_name(opponent)])?;
+    }
+    page.say_all(&[
+        b", which most servers save: ",
+        leave.word(),
+        b" again leaves.",
+    ])?;
+    page.end_row(start)
+}
+
+impl Memory {
+    /// Whether the user is in a match, of which he has not taken leave.
+    pub fn is_match_on(&self) -> bool
+        ensures { result ≡ is_match_on self.now }
+    {
+        !is_free(self.here.situation.standing)
+            && !self.here.table.boards.show_end()
+            && !self.program.reconnecting.has_left()
+    }
+}
+
+impl<'a> Screen<'a> {
+    /// What a line asks for. The first one that takes leave of a match is only answered.
+    pub(crate) fn wish(
+        &mut self,
+        client: &Client,
+        directory: &Directory,
+        line: &mut TypedLine,
+    ) -> Result<Wish, AllocError>
+        ensures asks { IfOk result (λ wish. AsksInBounds line.old.items (wish_value wish line.new.items)) }
+        ensures leave { IfOk result (λ wish. TakesLeave (is_match_on self.old.memory) self.old.memory.here.table.leave
+            self.new.memory.here.table.leave line.new.items wish) }
+        ensures quit { QuitsOrAsks client.now self.new.memory.here.table.leave line.old.items result }
+        ensures known { KnownGoesOnOrAsks client.now self.old.page.settings.numbers
+            self.old.memory.here.situation.standing self.new.memory.here.table.leave line.old.items line.new.items
+            result }
+        ensures word { SendsOnWord client.now self.old.memory.here.situation.standing line.old.items line.new.items
+            result }
+        ensures sent { SendsUntaken client.now line.new.items result }
+        ensures tried { OnOk result (TriesOrKeeps client.now self.old.page.settings self.old.memory.here.looking.trial
+            self.new.memory.here.looking.trial self.old.page.text.items self.new.page.text.items) }
+        ensures went { GoesOn client.now self.old.memory.here.looking.trial line.old.items line.new.items result }
+        ensures shown { ShowsTry client.now self.old.page.settings line.old.items self.new.memory.here.looking.trial
+            self.old.page.text.items self.new.page.text.items result }
+    {
+        let is_on = self.memory.is_match_on();
+        let before = self.memory.here.table.leave;
+        let wish = self.wish_line(client, directory, line)?;
+        match asked_first(is_on, before, leave_of(wish, line.as_slice())) {
+            None => {
+                self.memory.here.table.leave = None;
+                Ok(wish)
+            }
+            Some(leave) => {
+                self.memory.here.table.leave = Some(leave);
+                let opponent = self.memory.here.situation.opponent.name.as_slice();
+                say_leave(leave, opponent, &mut self.page)?;
+                Ok(Wish::Answered)
+            }
+        }
+    }
+}
