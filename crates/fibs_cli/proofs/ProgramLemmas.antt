@@ -5,7 +5,7 @@ use Rattle.std.specs.Borrow.{Bor}
 use Rattle.std.specs.Io.KnownBytes.{Appends, Keeps, IsAtEnd}
 use Rattle.fibs_fields.specs.Board.{BoardFields}
 use Rattle.fibs_show.specs.Plays.{PlaysText}
-use Rattle.fibs_cli.specs.Program.{Streams, Showed, ShowedObjects, Listed, Played, PlayedWord, RanScript, ListedObject, ListedWord, PlayedScript, RanObjects, Served}
+use Rattle.fibs_cli.specs.Program.{Streams, Showed, ShowedObjects, ShowedEvents, Listed, Played, PlayedWord, RanScript, ListedObject, ListedWord, PlayedScript, RanObjects, Served}
 use Rattle.fibs_engine.specs.Printing.{Printed, line_bytes}
 use Rattle.fibs_replay.specs.Output.{LoggedInPart, Replayed, ReplayFailed, ReplayedInPart}
 use Rattle.fibs_replay.specs.Scripts.{script_limit}
@@ -14,10 +14,11 @@ use Rattle.fibs_show.specs.Show.{WroteAll, WroteRead, WroteLines, WroteFront}
 use Rattle.fibs_json.specs.Plays.{PlaysObject}
 use Rattle.fibs_json.specs.Told.{SaysLine}
 use Rattle.fibs_json.specs.Streams as objects
+use Rattle.fibs_json.specs.Eventful as eventful
 use Rattle.fibs_cli.specs.Replayed.{ObjectsFailed, ObjectsInPart, ReplayedObjects}
 use Rattle.fibs_engine.specs.Writing.{GainedFront}
 use Rattle.fibs_cli.specs.declared.arguments.Request.{Request}
-use Rattle.fibs_cli.specs.declared.arguments.Request.TheVariants.{Show, ShowJson, Plays, PlaysJson, Replay, ReplayJson, Loop}
+use Rattle.fibs_cli.specs.declared.arguments.Request.TheVariants.{Show, ShowJson, ShowEvents, Plays, PlaysJson, Replay, ReplayJson, Loop}
 use Rattle.fibs_engine.specs.declared.fault.EngineFault.{EngineFault}
 use Rattle.fibs_engine.specs.declared.fault.EngineFault.TheVariants.{Device, Memory}
 
@@ -110,6 +111,17 @@ served_show request r a b is shown kept = subst (λ q. Served q r a b) (sym is) 
 pub served_objects : (request : Request) (r : Result ℕ EngineFault) (a b : Streams) → request ≡ ShowJson
     → ShowedObjects r a b → Keeps a.err b.err → Served request r a b
 served_objects request r a b is shown kept = subst (λ q. Served q r a b) (sym is) (shown, kept)
+
+-- the clauses of `show_events` in one
+pub showed_events : (r : Result ℕ EngineFault) (a b : Streams) → IfOk r (λ status. status ≡ 0)
+    → OnOk r (eventful.WroteAll a.input b.input a.out b.out) → OnOk r (IsAtEnd b.input) → ShowedEvents r a b
+showed_events (Ok status) a b is whole end = (is, whole, end)
+showed_events (Err why) a b is whole end = tt
+
+-- a request to show events is served so
+pub served_events : (request : Request) (r : Result ℕ EngineFault) (a b : Streams) → request ≡ ShowEvents
+    → ShowedEvents r a b → Keeps a.err b.err → Served request r a b
+served_events request r a b is shown kept = subst (λ q. Served q r a b) (sym is) (shown, kept)
 
 -- a request for the plays of a word is served so
 pub served_plays : (request : Request) (word : Bor (List ℕ)) (r : Result ℕ EngineFault) (a b : Streams)

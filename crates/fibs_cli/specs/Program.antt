@@ -10,13 +10,14 @@ use Rattle.fibs_show.specs.Show.{WroteAll, WroteRead, WroteLines, WroteFront}
 use Rattle.fibs_json.specs.Plays.{PlaysObject}
 use Rattle.fibs_json.specs.Told.{SaysLine}
 use Rattle.fibs_json.specs.Streams as objects
+use Rattle.fibs_json.specs.Eventful as eventful
 use Rattle.fibs_cli.specs.Replayed.{ObjectsFailed, ObjectsInPart, ReplayedObjects}
 use Rattle.fibs_engine.specs.Printing.{Printed, line_bytes}
 use Rattle.fibs_engine.specs.Writing.{GainedFront}
 use Rattle.fibs_cli.specs.declared.arguments.Answer.{Answer}
 use Rattle.fibs_cli.specs.declared.arguments.Answer.TheVariants.{Engine, Help, Refused, Memory}
 use Rattle.fibs_cli.specs.declared.arguments.Request.{Request}
-use Rattle.fibs_cli.specs.declared.arguments.Request.TheVariants.{Show, ShowJson, Plays, PlaysJson, Replay, ReplayJson, Loop}
+use Rattle.fibs_cli.specs.declared.arguments.Request.TheVariants.{Show, ShowJson, ShowEvents, Plays, PlaysJson, Replay, ReplayJson, Loop}
 use Rattle.fibs_engine.specs.declared.fault.EngineFault.{EngineFault}
 use Rattle.fibs_engine.specs.declared.fault.EngineFault.TheVariants as fault
 
@@ -46,6 +47,12 @@ ShowedObjects (Ok status) a b =
 ShowedObjects (Err fault.Device) a b =
     objects.WroteRead a.input b.input a.out b.out ⊎ objects.WroteFront a.input b.input a.out b.out
 ShowedObjects (Err fault.Memory) a b = objects.WroteLines a.input b.input a.out b.out
+
+-- the engine `show --events` answered so; after a fault nothing is said of what was printed
+abbrev pub ShowedEvents : Result ℕ EngineFault → Streams → Streams → Type 0
+ShowedEvents (Ok status) a b =
+    (status ≡ 0) × eventful.WroteAll a.input b.input a.out b.out × IsAtEnd b.input
+ShowedEvents (Err why) a b = Unit {0}
 
 -- the engine `plays` answered so for a good board
 abbrev pub Listed : BoardFields → Result ℕ EngineFault → Streams → Streams → Type 0
@@ -101,6 +108,7 @@ PlayedScript (Err fault.Memory) left still held now = ReplayedInPart left still 
 abbrev pub Served : Request → Result ℕ EngineFault → Streams → Streams → Type 0
 Served Show result a b = Showed result a b × Keeps a.err b.err
 Served ShowJson result a b = ShowedObjects result a b × Keeps a.err b.err
+Served ShowEvents result a b = ShowedEvents result a b × Keeps a.err b.err
 Served (Plays word) result a b = PlayedWord word.now result a b × Keeps a.input b.input
 Served (PlaysJson word) result a b = ListedWord word.now result a b × Keeps a.input b.input × Keeps a.err b.err
 Served Replay result a b = RanScript result a b × Keeps a.err b.err

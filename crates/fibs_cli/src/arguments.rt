@@ -59,7 +59,18 @@ KIND is board, message, text, cut or malformed, LINE the line itself, and the
 other members say what it means by name. Each byte that is not printable ASCII
 is the character of its number in LINE. The last object may be
 
-  {\"kind\":\"unfinished\",\"bytes\":COUNT}";
+  {\"kind\":\"unfinished\",\"bytes\":COUNT}
+
+With --events these objects are printed too, and after the object of a line one
+for each thing that has happened by it, as boards and texts say:
+
+  {\"kind\":\"event\",\"event\":EVENT,\"line_number\":LINE,...}
+
+EVENT is logged_in, joined, rolled, played, doubled, accepted, game_over and so
+on; docs/FORMATS.md lists them. Nothing is told twice for a board or a text that
+comes again. The last object is a summary:
+
+  {\"kind\":\"summary\",\"lines\":COUNT,...}";
 
 const PLAYS: &str = "List the plays of a board";
 
@@ -262,6 +273,9 @@ const LOG: &str = "A file to which the conversation is appended";
 /// What `--json` says.
 const JSON: &str = "Print a JSON object for each line";
 
+/// What `--events` says.
+const EVENTS: &str = "Print these objects, and one for each event";
+
 /// What `HOST`, `PORT`, `NAME` and `LINE` say.
 const HOST: &str = "The server's name or address";
 
@@ -308,6 +322,8 @@ pub enum Request<'a> {
     Show,
     /// To show the standard input as JSON.
     ShowJson,
+    /// The same, with what has happened.
+    ShowEvents,
     /// To list the plays of a board line, or of its object.
     Plays(&'a str),
     /// To list them as JSON.
@@ -410,8 +426,18 @@ const JSON_ARGUMENT: Argument = Argument {
     kind: Kind::Flag,
 };
 
-/// The arguments of `show` and of `replay`.
+/// The arguments of `replay`.
 const JSON_ARGUMENTS: [Argument; 1] = [JSON_ARGUMENT];
+
+/// The arguments of `show`.
+const SHOW_ARGUMENTS: [Argument; 2] = [
+    JSON_ARGUMENT,
+    Argument {
+        name: "events",
+        help: EVENTS,
+        kind: Kind::Flag,
+    },
+];
 
 /// The arguments of `plays`.
 const PLAYS_ARGUMENTS: [Argument; 2] = [
@@ -468,7 +494,7 @@ const SUBCOMMANDS: &[Subcommand] = &[
         name: "show",
         about: SHOW,
         long_about: SHOW_LONG,
-        arguments: &JSON_ARGUMENTS,
+        arguments: &SHOW_ARGUMENTS,
     },
     Subcommand {
         name: "plays",
@@ -569,6 +595,7 @@ fn engine(request: Request<'_>) -> Option<Asked<'_>> {
 fn asked_of<'a>(matches: &ArgMatches<'a>) -> Option<Asked<'a>> {
     let (word, matches) = matches.subcommand()?;
     match word {
+        "show" if matches.get_flag("events") => engine(Request::ShowEvents),
         "show" if matches.get_flag("json") => engine(Request::ShowJson),
         "show" => engine(Request::Show),
         "plays" if matches.get_flag("json") => {

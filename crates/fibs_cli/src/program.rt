@@ -9,6 +9,7 @@ use crate::objects::replay::replay_json;
 use fibs_engine::fault::EngineFault;
 use fibs_engine::status::Status;
 use fibs_engine::writing::write_bytes;
+use fibs_json::eventful::show_events;
 use fibs_json::plays::plays_json;
 use fibs_json::show::show_json;
 use fibs_json::told::told_line;
@@ -58,6 +59,7 @@ fn serve<N: Net<Listener = TcpListener, Stream = TcpStream>, R: Read, W: Write, 
     match request {
         Request::Show => show(alloc, input, out),
         Request::ShowJson => show_json(alloc, input, out),
+        Request::ShowEvents => show_events(alloc, input, out),
         Request::Plays(word) => plays(alloc, told_line(word.as_bytes()), out, err),
         Request::PlaysJson(word) => plays_json(alloc, told_line(word.as_bytes()), out),
         Request::Replay => replay(alloc, input, out),

@@ -1,7 +1,7 @@
 use Rattle.std.proofs.Common.{◌++◌, ◌∷◌, []}
 use Rattle.std.proofs.KnownBytes.{Keeps-refl}
 use Rattle.fibs_cli.specs.Program.{Streams, streams, Played}
-use Rattle.fibs_cli.proofs.ProgramLemmas.{showed, listed, printed, ran_script, served_replay, served_show, served_plays, served_loop, showed_objects, served_objects, listed_object, listed_word, for_word, served_listed, ran_objects, served_ran}
+use Rattle.fibs_cli.proofs.ProgramLemmas.{showed, listed, printed, ran_script, served_replay, served_show, served_plays, served_loop, showed_objects, served_objects, showed_events, served_events, listed_object, listed_word, for_word, served_listed, ran_objects, served_ran}
 use Rattle.fibs_cli.proofs.program.serve.Goals as goal
 
 pub returns-in-Show : goal.returns-in-Show
@@ -25,6 +25,17 @@ returns-in-ShowJson g c =
     let b : Streams = streams (input c.show_json.new.reader) (out c.show_json.new.writer) err in
     served_objects c.args.request c.show_json.result a b c.in-ShowJson.is
     (showed_objects c.show_json.result a b told.status told.whole told.end told.device told.memory) (Keeps-refl err)
+
+pub returns-in-ShowEvents : goal.returns-in-ShowEvents
+returns-in-ShowEvents g c =
+    let told = c.show_events.ensures in
+    let input = g.R.Read.remaining in
+    let out = g.W.Write.contents in
+    let err = g.E.Write.contents c.args.err.now in
+    let a : Streams = streams (input c.args.input.now) (out c.args.out.now) err in
+    let b : Streams = streams (input c.show_events.new.reader) (out c.show_events.new.writer) err in
+    served_events c.args.request c.show_events.result a b c.in-ShowEvents.is
+    (showed_events c.show_events.result a b told.status told.whole told.end) (Keeps-refl err)
 
 pub returns-in-Replay : goal.returns-in-Replay
 returns-in-Replay g c =
