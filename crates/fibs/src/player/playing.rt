@@ -5,7 +5,7 @@ use fibs_cli::arguments::Call;
 use fibs_cli::objects::front::Objects;
 use fibs_connect::typed_line::TypedLine;
 use fibs_connect::typed_lines::TypedLines;
-use fibs_connect::watch::Watch;
+use fibs_connect::watch::{Patience, Watch};
 use fibs_connect::{answer_lines, converse_on, converse_with};
 use fibs_engine::attention::Pace;
 use fibs_engine::dial::{Dial, Endpoint, TcpDial};
@@ -18,7 +18,7 @@ use fibs_engine::status::Status;
 use fibs_engine::writing::write_bytes;
 use fibs_session::{Login, PlainFault};
 use fibs_terminal::Terminal;
-use fibs_wording::environment::{Clocks, Config, terminal_settings};
+use fibs_wording::environment::{Clocks, Config, RecordFile, Settings, terminal_settings};
 use fibs_wording::reasons::append_login_fault;
 use std::alloc::Global;
 use std::io::{IsTerminal, Read, Stdout, Write};
@@ -67,7 +67,8 @@ fn say_login_fault(rt: &HostRuntime, why: PlainFault) -> Result<u8, EngineFault>
 
 /// Answers typed lines at a terminal, and gives the standing order if the user's own settings ask for it; ends if the
 /// server refuses the login. At the end the window has the title that it had before.
-fn answer_at_terminal<D: Dial, R: Read, V: Watch, W: Write + Drop, C: Clock + Drop>(
+fn answer_at_terminal<D: Dial, R: Read, V: Patience, W: Write + Drop, C: Clock + Copy + Drop>(
+    clock: C,
     server: &mut D,
     alloc: Global,
     login: Login,
@@ -79,10 +80,12 @@ fn answer_at_terminal<D: Dial, R: Read, V: Watch, W: Write + Drop, C: Clock + Dr
     dues: &Dues,
 ) -> Result<u8, EngineFault> {
     let mut server = OrderedServer::new(server, orders_roll, dues);
-    let mut watch = OrderedWatch::new(watch, dues);
+    let mut watch = OrderedWatch::new(watch, clock, dues);
     let answer = answer_lines(&mut server, alloc, login, lines, input, &mut watch, front);
+    let kept = front.end_record().map_err(EngineFault::from);
     let left = front.leave();
     let status = unless_memory_ran_out(answer, front)?;
+    unless_memory_ran_out(kept, front)?;
     left?;
     Ok(if dues.end.get() {
         Status::Refused.code()
@@ -91,8 +94,43 @@ fn answer_at_terminal<D: Dial, R: Read, V: Watch, W: Write + Drop, C: Clock + Dr
     })
 }
 
+/// Makes the terminal of what is shown there, of the user's own settings and of his files, and talks with a server.
+fn talk_at_terminal<'a, D: Dial, R: Read, V: Patience>(
+    rt: &'a HostRuntime,
+    config: &Config,
+    shown: Settings<'a>,
+    dues: &'a Dues,
+    server: &mut D,
+    login: Login,
+    lines: &mut TypedLines,
+    input: &mut R,
+    watch: &mut V,
+    out: &mut Noted<Stdout>,
+) -> Result<u8, EngineFault> {
+    let alloc = rt.alloc();
+    let mut front = Terminal::new(alloc, &mut *out, rt, shown);
+    front.ask_for_boards(&dues.board);
+    let configured = front.configure(config).map_err(EngineFault::from);
+    unless_memory_ran_out(configured, &front)?;
+    front.keep_record(RecordFile::of(rt)?);
+    front.reconnect_by(&dues.open_at);
+    let orders_roll = config.orders_roll();
+    answer_at_terminal(
+        rt,
+        server,
+        alloc,
+        login,
+        lines,
+        input,
+        watch,
+        &mut front,
+        orders_roll,
+        dues,
+    )
+}
+
 /// Talks with a server at a terminal. The first line is the password.
-fn play_at_terminal<D: Dial, R: Read, V: Watch>(
+fn play_at_terminal<D: Dial, R: Read, V: Patience>(
     rt: &HostRuntime,
     server: &mut D,
     call: Call<'_>,
@@ -100,33 +138,24 @@ fn play_at_terminal<D: Dial, R: Read, V: Watch>(
     watch: &mut V,
     out: &mut Noted<Stdout>,
 ) -> Result<u8, EngineFault> {
-    let alloc = rt.alloc();
     let config = Config::read(rt)?;
     let clocks = Clocks::read(rt);
-    let shown = terminal_settings(rt, clocks.zone(), call.host, call.port);
     let mut lines = TypedLines::new(MOST_INPUT_READS);
     let mut line = TypedLine::new();
     // what is read with the password may begin a line
     let dues = Dues::new();
     let mut input = OrderedInput::new(input, &dues);
     lines.read_line(&mut input, &mut line)?;
+    if rt.stdin().is_terminal() {
+        input.quit_at_end();
+    }
     let login = match Login::new(call.name.as_bytes(), line.as_slice()) {
         Err(why) => return say_login_fault(rt, why),
         Ok(login) => login,
     };
-    let mut front = Terminal::new(alloc, out, rt, shown);
-    let configured = front.configure(&config).map_err(EngineFault::from);
-    unless_memory_ran_out(configured, &front)?;
-    answer_at_terminal(
-        server,
-        alloc,
-        login,
-        &mut lines,
-        &mut input,
-        watch,
-        &mut front,
-        config.orders_roll(),
-        &dues,
+    let shown = terminal_settings(rt, clocks.zone(), call.host, call.port);
+    talk_at_terminal(
+        rt, &config, shown, &dues, server, login, &mut lines, &mut input, watch, out,
     )
 }
 
@@ -197,7 +226,7 @@ fn print<D: Dial, R: Read, V: Watch>(
 
 /// Talks with a server, which is read at this pace: as a terminal shows it, if the standard output
 /// is one and no objects are asked for, else as the engines print it; and with a log, if one is asked for.
-pub fn play<N: Net<Listener = TcpListener, Stream = TcpStream>, R: Read, V: Watch>(
+pub fn play<N: Net<Listener = TcpListener, Stream = TcpStream>, R: Read, V: Patience>(
     rt: &HostRuntime,
     net: &N,
     call: Call<'_>,

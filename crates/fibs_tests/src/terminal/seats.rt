@@ -52,6 +52,9 @@ pub enum Cue<'a> {
 pub fn narrow_settings() -> Settings<'static> {
     Settings {
         columns: 60,
+        rows: 0,
+        scrolls_below: false,
+        above: None,
         colour: true,
         bell: false,
         title: false,
@@ -59,6 +62,7 @@ pub fn narrow_settings() -> Settings<'static> {
         is_turned: false,
         numbers: Numbers::TheOwn,
         words: false,
+        is_short: false,
         utf8: false,
         zone: Zone::utc(),
         host: b"fibs.com",
