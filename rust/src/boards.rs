@@ -107,10 +107,42 @@ impl Board {
     /// # Errors
     /// Why the board has no position.
     pub fn pips(&self) -> Result<(u32, u32), PositionFault> {
-        let position = Position::of(self)?;
-        let sum = |on: &dyn Fn(u8) -> u8| (1..=25).map(|place| u32::from(place) * u32::from(on(place))).sum();
-        let other = |place| if place == 25 { position.other_bar() } else { position.other(25 - place) };
-        Ok((sum(&|place| position.own(place)), sum(&other)))
+        Ok(Position::of(self)?.pips())
+    }
+
+    /// Whose the cube is: who may double next.
+    pub fn cube_owner(&self) -> CubeOwner {
+        match (self.may_double(), self.opponent_may_double()) {
+            (true, true) => CubeOwner::Middle,
+            (true, false) => CubeOwner::Player,
+            (false, true) => CubeOwner::Opponent,
+            // who has just doubled with a cube of his own keeps it until that is answered
+            (false, false) if self.was_doubled() && self.cube() > 1 => CubeOwner::Opponent,
+            (false, false) => CubeOwner::Nobody,
+        }
+    }
+
+    /// Whether the game is that of the Crawford rule, in which nobody doubles: one side alone has one point to go, and
+    /// had more before. It is told by the board: neither side may double, and the cube was not turned.
+    ///
+    /// ```
+    /// # let line = "board:You:bob:3:2:1:0:-2:0:0:0:0:5:0:3:0:0:0:-5:5:0:0:0:-3:0:-5:0:0:0:0:2:0:1:\
+    /// #     6:2:0:0:1:0:0:0:1:-1:0:25:0:0:0:0:2:0:0:0";
+    /// let board: fibs::Board = line.parse()?;
+    /// assert_eq!((board.length(), board.score(), board.opponent_score()), (Some(3), 2, 1));
+    /// assert_eq!((board.is_crawford(), board.cube_owner()), (true, fibs::CubeOwner::Nobody));
+    /// # Ok::<(), fibs::FieldFault>(())
+    /// ```
+    pub fn is_crawford(&self) -> bool {
+        let is_near = |score: i32| self.length().is_some_and(|length| length > 1 && score == length - 1);
+        let is_one_near = is_near(self.score()) != is_near(self.opponent_score());
+        is_one_near && self.cube() == 1 && !self.was_doubled() && self.cube_owner() == CubeOwner::Nobody
+    }
+
+    /// Whether the board is one of a game in which the user does not play. [`WatchedBoard`](crate::WatchedBoard) has
+    /// the position that its player sees.
+    pub fn is_others(&self) -> bool {
+        self.player().bytes() != b"You"
     }
 
     /// What the player may do.
@@ -165,6 +197,19 @@ impl Board {
             board.with(n, value).unwrap_or(board)
         })
     }
+}
+
+/// Whose the cube is.
+#[derive(Clone, Copy, Debug, PartialEq, Eq, Hash)]
+pub enum CubeOwner {
+    /// The player's.
+    Player,
+    /// The opponent's.
+    Opponent,
+    /// In the middle: both may double.
+    Middle,
+    /// Nobody may double, as in a match to one point.
+    Nobody,
 }
 
 /// The fields that say the same of one side and of the other.
@@ -228,6 +273,28 @@ impl Position {
     /// The opponent's checkers on a place 1 to 24 of the player's numbering. None for another place.
     pub fn other_on(&self, place: u8) -> Option<u8> {
         (1..=24).contains(&place).then(|| self.other(place))
+    }
+
+    /// The checkers of the player and of the opponent, each in its own numbers: those borne off, those on the places 1
+    /// to 24, and those on the bar.
+    pub fn checkers(&self) -> [[u8; 26]; 2] {
+        let [mut own, mut other] = [[0; 26]; 2];
+        for place in 0..26 {
+            own[usize::from(place)] = self.own(place);
+            other[usize::from(place)] = match place {
+                0 => self.other_off(),
+                25 => self.other_bar(),
+                place => self.other(25 - place),
+            };
+        }
+        [own, other]
+    }
+
+    /// How many pips the player and the opponent have to go.
+    pub fn pips(&self) -> (u32, u32) {
+        let [own, other] =
+            self.checkers().map(|side| (0..).zip(side).map(|(place, count)| place * u32::from(count)).sum());
+        (own, other)
     }
 }
 

@@ -1,8 +1,8 @@
 //! Refusals and faults as errors of Rust: what each says in a sentence; and the missing prints. Written by hand.
 
 use crate::{
-    Client, Directory, DirectoryFault, Disallowed, Fault, Lines, Login, OwnLineRefusal, PlainFault, PlainRefusal,
-    PositionFault, Refusal,
+    AllocError, Client, Directory, DirectoryFault, Disallowed, Fault, Lines, Login, OwnLineRefusal, PlainFault,
+    PlainRefusal, PositionFault, Refusal,
 };
 use std::error::Error;
 use std::fmt;
@@ -61,6 +61,59 @@ says! {
         NotANumber: "it is not spelled as a number of its kind",
         OutOfRange: "it is a number that the field may not have",
         BadName: "it is no name, word or text of its kind",
+    }
+}
+
+/// Why a board has no [`Turn`](crate::Turn), or is not told in words.
+#[derive(Clone, Copy, Debug, PartialEq, Eq, Hash)]
+#[non_exhaustive]
+pub enum BoardFault {
+    /// It has no position.
+    Position(PositionFault),
+    /// The player may not move on it.
+    Disallowed(Disallowed),
+    /// Memory ran out.
+    Memory,
+}
+
+impl BoardFault {
+    /// The fault's name.
+    pub fn name(self) -> &'static str {
+        match self {
+            BoardFault::Position(fault) => fault.name(),
+            BoardFault::Disallowed(why) => why.name(),
+            BoardFault::Memory => DirectoryFault::Memory.name(),
+        }
+    }
+}
+
+impl fmt::Display for BoardFault {
+    fn fmt(&self, f: &mut fmt::Formatter<'_>) -> fmt::Result {
+        match self {
+            BoardFault::Position(fault) => fault.fmt(f),
+            BoardFault::Disallowed(why) => why.fmt(f),
+            BoardFault::Memory => AllocError.fmt(f),
+        }
+    }
+}
+
+impl Error for BoardFault {}
+
+impl From<PositionFault> for BoardFault {
+    fn from(fault: PositionFault) -> BoardFault {
+        BoardFault::Position(fault)
+    }
+}
+
+impl From<Disallowed> for BoardFault {
+    fn from(why: Disallowed) -> BoardFault {
+        BoardFault::Disallowed(why)
+    }
+}
+
+impl From<AllocError> for BoardFault {
+    fn from(_: AllocError) -> BoardFault {
+        BoardFault::Memory
     }
 }
 

@@ -6,8 +6,11 @@
 //! | find the lines of a stream that comes in pieces | [`Lines`] |
 //! | know what a line says | [`read`], [`Reading`], [`Board`], [`Message`] |
 //! | know what a player may do, and what it does | [`Position`], [`Decision`], [`effect`] |
+//! | play step by step | [`Turn`] |
 //! | talk with the server | [`Client`], [`Login`], [`Decision`], [`Plain`] |
 //! | know who is there | [`Directory`] |
+//! | know what has happened | [`Events`] |
+//! | write down matches for GNU Backgammon | [`MatchFiles`] |
 //! | print what the program `fibs` prints | [`show`] |
 //!
 //! ```
@@ -52,33 +55,45 @@ include!(concat!(env!("OUT_DIR"), "/modules.rs"));
 mod boards;
 mod client;
 mod errors;
+mod events;
 #[cfg(feature = "c")]
 #[allow(missing_docs)]
 mod handles;
 mod lines;
+mod match_files;
 mod people;
 // it has also what only the program uses
 #[allow(missing_docs, unused_imports, dead_code)]
 mod rattle;
+mod saved;
 #[cfg(feature = "serde")]
 mod serde;
 #[cfg(all(test, feature = "model"))]
 mod tests;
+mod turn;
 mod values;
+mod words;
 
+pub use boards::CubeOwner;
 pub use client::{Client, ConnectionState, Heard, Lost, OwnLineRefusal, OwnedHeard};
+pub use errors::BoardFault;
+pub use events::{Events, Happened};
 pub use fibs_commands::{
     AnswerText, CommandText, Login, Plain, PlainFault, decision_text, plain_text, read_command, read_plain,
 };
+pub use fibs_events::event::{Event, Length, Offer, Side};
 pub use fibs_lines::{Fed, LIMIT, Line};
 pub use fibs_messages::directory::{Directory, DirectoryFault, Player};
 pub use fibs_messages::{Board, Fault, Field, FieldFault, Message, Name, OwnInfo, Reading, Tail, WhoInfo, Word, read};
 pub use fibs_position::{
-    Decision, Direction, Disallowed, Phase, Play, Position, PositionFault, Stake, Step, differs, effect,
+    Decision, Direction, Disallowed, Phase, Play, Position, PositionFault, Stake, Step, WatchedBoard, differs, effect,
 };
 pub use fibs_session::{Outstanding, PlainRefusal, Refusal};
 pub use lines::{Lines, OwnedLine, OwnedLines, ReadLines};
+pub use match_files::{MatchFile, MatchFiles};
 pub use rattle::alloc::AllocError;
+pub use saved::SavedMatch;
+pub use turn::{NextStep, Turn};
 pub use values::ValueFault;
 
 /// The numbers of the fields of a board line, for [`Board::get`] and [`Board::with`].

@@ -222,6 +222,8 @@ fn each_crate_has_its_place() {
     }
 }
 
+const OF_ALLOC: &str = "`alloc` is not of Rust, in a form that is not known";
+
 /// What is refused, at which line, and what is said.
 const REFUSED: &[(&str, usize, &str)] = &[
     ("fn f() {\n    ghost let a = 1;\n}", 2, "`ghost` begins no form that is known"),
@@ -234,8 +236,8 @@ const REFUSED: &[(&str, usize, &str)] = &[
     ("fn f() { λ }", 1, "`λ` is not of Rust, in a form that is not known"),
     ("impl Drop for A {}", 1, "`Drop` is not of Rust, in a form that is not known"),
     ("fn f(a: Vec<u8, Global>) {}", 1, "`Global` is not of Rust, in a form that is not known"),
-    ("fn f() { alloc.take() }", 1, "`alloc` is not of Rust, in a form that is not known"),
-    ("fn f() { vec![in alloc; 0; 3] }", 1, "`alloc` is not of Rust, in a form that is not known"),
+    ("fn f() { alloc.take() }", 1, OF_ALLOC),
+    ("fn f() { vec![in alloc; 0; 3] }", 1, OF_ALLOC),
     ("struct A<M: Model>(M);", 1, "`Model` is not of Rust, in a form that is not known"),
     ("fn f() {\n    prove { true }\n}", 2, "`prove` is not of Rust, in a form that is not known"),
     ("fn tactic() {}", 1, "`tactic` is not of Rust, in a form that is not known"),
@@ -246,12 +248,7 @@ const REFUSED: &[(&str, usize, &str)] = &[
     ("extern \"C\" fn f(a: &[[u8; 2]]) {}", 1, "the items of a slice for C have a name"),
     ("fn f() { a.push(1", 1, "no bracket closes `(`"),
     ("ghost a = 1;", 1, "`ghost` begins no form that is known"),
-    (
-        "let alloc = match items.pop() { Some(_) => page.alloc, None => page.alloc };",
-        1,
-        "`alloc` is not of Rust, in a form that is not known",
-    ),
-    ("let alloc = self.taken(1).alloc;", 1, "`alloc` is not of Rust, in a form that is not known"),
+    ("let alloc = self.taken(1).alloc;", 1, OF_ALLOC),
     ("fn f() {\n    let _left = items.push(x);\n}", 2, "what `push` gives is not tested at once"),
     ("let _ = Vec::push(&mut items, x);", 1, "what `push` gives is not tested at once"),
     ("drop(self.names.insert(name, 1));", 1, "what `insert` gives is not tested at once"),
@@ -261,6 +258,12 @@ const REFUSED: &[(&str, usize, &str)] = &[
     ("let _r = A { kept }.kept.push(1);", 1, "what `push` gives is not tested at once"),
     ("#[cfg(target_pointer_width = \"64\")]\nfn f() {}", 1, "the attribute `cfg` is not known"),
     ("if cfg!(target_pointer_width = \"64\") {}", 1, "`cfg` is not of Rust, in a form that is not known"),
+    ("let alloc = match items.pop() { Some(_) => page.alloc, None => page.alloc };", 1, OF_ALLOC),
+    ("fn f() {\n    if items.push(1).is_err() {}\n}", 2, "what `push` gives is not tested at once"),
+    ("fn f() {\n    prove!(true);\n}", 2, "`prove` is not of Rust, in a form that is not known"),
+    ("fn f() {\n    g(page.alloc, 3)\n}", 2, OF_ALLOC),
+    ("fn f(alloc: u8) {}", 1, OF_ALLOC),
+    ("fn f()\n    ensures { b' }\n{}", 2, "no bracket closes `{`"),
 ];
 
 #[test]
@@ -280,9 +283,12 @@ fn what_asks_of_its_callers_is_named() {
         "pub fn f(a: u8)\n    requires { a ≤ 4 }\n{}\n\npub trait T {\n    fn g(a: u8)\n",
         "        requires { a ≤ 4 };\n    fn h(a: u8)\n        ensures { true };\n}\n\nfn own(a: u8)\n",
         "    requires { a ≤ 4 }\n{}\n\npub fn pick(\n    of: fn(u8) -> u8,\n    a: u8,\n)\n",
-        "    requires { a ≤ 4 }\n{}",
+        "    requires { a ≤ 4 }\n{}\n\n#[inline] pub fn h(a: u8) requires { a ≤ 4 } {}\n",
+        "pub fn i() {} fn j(a: u8) requires { a ≤ 4 } {}\n",
     );
-    assert_eq!(erase(text, "fibs_lines", &PLAN).unwrap().1, ["f", "T::g", "pick"]);
+    assert_eq!(erase(text, "fibs_lines", &PLAN).unwrap().1, ["f", "T::g", "pick", "h"]);
+    let method = "impl A {\n    #[inline] pub fn f(a: u8) requires { a ≤ 4 } {}\n}";
+    assert!(rust_of(method).unwrap().contains("#[inline] pub(crate) fn f("), "{:?}", rust_of(method));
 }
 
 #[test]

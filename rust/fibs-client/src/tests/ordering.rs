@@ -1,10 +1,14 @@
-//! The standing order that the user's own settings ask for: when it is due, and where it is put in what is typed.
+//! What goes as if it were typed: when it is due, and where it is put in what is typed.
 
 use super::connect::Door;
-use crate::fibs::player::ordering::{Dues, OrderedInput, OrderedServer};
+use crate::fibs::player::ordering::{Dues, OrderedInput, OrderedServer, OrderedWatch};
+use crate::fibs_connect::watch::{First, Patience, Watch};
 use crate::fibs_engine::dial::Dial;
 use crate::fibs_test_tools::pipe::{After, Pipe};
+use crate::rattle::io;
 use crate::rattle::io::Read;
+use crate::rattle::time::{Clock, Duration};
+use std::cell::Cell;
 
 /// What is read of what is typed, in pieces of three bytes, if the order is due from the piece with this number on.
 fn read_with_order(typed: &[u8], due: usize) -> String {
@@ -44,4 +48,123 @@ fn an_order_is_due_on_a_connection() {
         let made = OrderedServer::new(&mut door, is_asked, &dues).dial().is_ok();
         assert_eq!((made, dues.order.get()), (connections == 1, is_asked && connections == 1));
     }
+}
+
+/// A clock that stands still until it is moved.
+#[derive(Clone, Copy)]
+struct Moved<'a>(&'a Cell<u64>);
+
+impl Clock for Moved<'_> {
+    fn monotonic(&self) -> io::Result<Duration> {
+        Ok(Duration::from_millis(self.0.get()))
+    }
+
+    fn since_1970(&self) -> io::Result<Duration> {
+        Ok(Duration::from_secs(0))
+    }
+}
+
+/// Waits of which the times are kept: in one that has a time the clock moves by a part of it, and nothing is ready; one
+/// without a time hears the server.
+struct Waits<'a> {
+    clock: &'a Cell<u64>,
+    parts: u64,
+    times: Vec<u64>,
+}
+
+impl Watch for Waits<'_> {
+    fn first(&mut self) -> First {
+        self.times.push(u64::MAX);
+        First::Heard
+    }
+}
+
+impl Patience for Waits<'_> {
+    fn first_within(&mut self, time: Duration) -> Option<First> {
+        let time = time.as_millis() as u64;
+        self.times.push(time);
+        self.clock.set(self.clock.get() + (time / self.parts).max(1));
+        None
+    }
+}
+
+/// When `open` is due, from when on the wait is watched, in how many parts it wakes; how long each wait is.
+type WaitRow = (Option<u64>, u64, u64, &'static [u64]);
+
+/// Nothing wakes it but what is ready, if `open` is never due; if it is due at a time, that is waited for, and once if
+/// nothing else ends the wait.
+#[test]
+fn open_is_typed_when_it_is_due() {
+    let rows: [WaitRow; 5] = [
+        (None, 0, 1, &[u64::MAX]),
+        (Some(4000), 0, 1, &[4000]),
+        (Some(4000), 1000, 2, &[3000, 1500, 750, 375, 188, 94, 47, 24, 12, 6, 3, 2, 1]),
+        (Some(4000), 4000, 1, &[]),
+        (Some(4000), 9000, 1, &[]),
+    ];
+    for (at, now, parts, times) in rows {
+        let (dues, clock) = (Dues::new(), Cell::new(now));
+        dues.open_at.set(at.map(Duration::from_millis));
+        let mut waits = Waits { clock: &clock, parts, times: Vec::new() };
+        let first = OrderedWatch::new(&mut waits, Moved(&clock), &dues).first();
+        assert_eq!(waits.times, times, "{at:?} {now}");
+        let mut pipe = Pipe::new(b"roll\n", 9, After::End, 0);
+        let mut room = [0; 64];
+        let mut input = OrderedInput::new(&mut pipe, &dues);
+        let count = input.read(&mut room).expect("it is read");
+        let wanted: (First, &[u8]) = if at.is_some() { (First::Typed, b"open\n") } else { (First::Heard, b"roll\n") };
+        assert_eq!((first, &room[..count]), wanted);
+        // it is typed once, and no time is waited for any more
+        assert_eq!((dues.open_at.get(), dues.open.get()), (None, false));
+        let count = input.read(&mut room).expect("it is read");
+        assert!(!room[..count].starts_with(b"open"));
+    }
+}
+
+/// It is never put into a line that is half typed.
+#[test]
+fn open_comes_between_two_lines() {
+    let dues = Dues::new();
+    let mut pipe = Pipe::new(b"say hello\n", 4, After::End, 0);
+    let mut input = OrderedInput::new(&mut pipe, &dues);
+    let (mut text, mut room) = (Vec::new(), [0; 64]);
+    for number in 0.. {
+        if number == 1 {
+            dues.open.set(true);
+        }
+        match input.read(&mut room).expect("it is read") {
+            0 => break,
+            count => text.extend_from_slice(&room[..count]),
+        }
+    }
+    assert_eq!(text, b"say hello\nopen\n");
+}
+
+/// What is read of what is typed, in pieces of three bytes, and of what goes at its end, in as many reads.
+fn read_past_end(typed: &[u8], reads: usize) -> String {
+    let dues = Dues::new();
+    let mut pipe = Pipe::new(typed, 3, After::End, 0);
+    let mut input = OrderedInput::new(&mut pipe, &dues);
+    input.quit_at_end();
+    let (mut text, mut room) = (Vec::new(), [0; 64]);
+    for _ in 0..reads {
+        let count = input.read(&mut room).expect("it is read");
+        text.extend_from_slice(&room[..count]);
+    }
+    String::from_utf8(text).expect("ASCII")
+}
+
+/// At a terminal the end goes as `quit`, each time, and ends a line that was begun.
+#[test]
+fn the_end_of_a_terminal_goes_as_quit() {
+    assert_eq!(read_past_end(b"", 2), "quit\nquit\n");
+    assert_eq!(read_past_end(b"roll\n", 3), "roll\nquit\n");
+    assert_eq!(read_past_end(b"rol", 3), "rol\nquit\nquit\n");
+    // it has no room in part
+    let dues = Dues::new();
+    let mut pipe = Pipe::new(b"", 3, After::End, 0);
+    let mut input = OrderedInput::new(&mut pipe, &dues);
+    assert_eq!(input.read(&mut [0; 64]).expect("it is read"), 0);
+    input.quit_at_end();
+    assert_eq!(input.read(&mut [0; 4]).expect("it is read"), 0);
 }

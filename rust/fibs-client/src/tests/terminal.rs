@@ -1,24 +1,34 @@
 //! A terminal: what a player sees of a board and of a conversation, and how what he types, and a password file, are
 //! read.
 
+mod above;
 mod advice;
 mod any_order;
+mod any_text;
 mod boxes;
 mod columns;
 mod conversations;
 mod endings;
 mod flushing;
+mod heard;
+mod hits;
+mod leaving;
 mod lines;
+mod listed;
 mod messages;
 mod numbers;
 mod offers;
 mod others;
 mod passwords;
 mod pictures;
+mod quiet;
+mod reconnecting;
 mod remembering;
+mod results;
 mod rows;
 mod rules;
 mod seats;
+mod sent;
 mod settings;
 mod spellings;
 mod states;
@@ -26,5 +36,7 @@ mod story;
 mod texts;
 mod titles;
 mod typed_lines;
+mod typed_words;
 mod watched;
+mod ways_on;
 mod words;

@@ -1,19 +1,13 @@
 //! What the screen says next, in each state of the conversation.
 
-use super::lines::{MOVED, SETTINGS, TO_MOVE, TO_ROLL, WELCOME};
+use super::lines::{DOUBLED, MOVED, OVER, SETTINGS, TO_MOVE, TO_ROLL, WELCOME};
 use super::seats::{Cue, Scene, assert_scenes, plain_settings};
 
-/// The first board, on which the cube was turned by a double that was accepted; and one on which a double is offered.
+/// The first board, on which the cube was turned by a double that was accepted.
 const TAKEN: &[u8] =
     b"board:You:bob:3:0:1:0:-2:0:0:0:0:5:0:3:0:0:0:-5:5:0:0:0:-3:0:-5:0:0:0:0:2:0:1:0:0:0:0:2:0:1:0:1:-1:0:25:0:0:0:0:2:0:0:0\r\n";
 
-const DOUBLED: &[u8] =
-    b"board:You:bob:3:0:1:0:-2:0:0:0:0:5:0:3:0:0:0:-5:5:0:0:0:-3:1:-5:0:0:0:0:1:0:1:0:0:0:0:2:0:1:1:1:-1:0:25:0:0:0:0:2:0:0:0\r\n";
-
-/// A game that is over, in a match that goes on; and one that ends the match.
-const OVER: &[u8] =
-    b"board:You:bob:3:0:2:0:-2:0:0:0:0:5:0:3:0:0:0:-5:5:0:0:0:-3:0:-5:0:0:0:0:2:0:0:0:0:0:0:1:1:1:0:1:-1:0:25:0:0:0:0:2:0:0:0\r\n";
-
+/// A game that is over, and the match with it.
 const WON: &[u8] =
     b"board:You:bob:3:3:1:0:-2:0:0:0:0:5:0:3:0:0:0:-5:5:0:0:0:-3:0:-5:0:0:0:0:2:0:0:0:0:0:0:1:1:1:0:1:-1:0:25:0:0:0:0:2:0:0:0\r\n";
 
@@ -33,7 +27,7 @@ static OFFERS: [Scene; 13] = [
             Cue::Rests,
             Cue::Rests,
         ],
-        "bob rejects. The game continues.\nbob declined? Go on: send roll, or send double\n",
+        "bob rejects. The game continues.\nbob declined? Go on: roll, or double.\n",
     ),
     (
         &[
@@ -43,11 +37,11 @@ static OFFERS: [Scene; 13] = [
             Cue::Hears(b"bob rejects. The game continues.\r\n"),
             Cue::Rests,
         ],
-        "bob rejects. The game continues.\nbob declined? Go on: send move 24-22 24-18\n",
+        "bob rejects. The game continues.\nbob declined? Go on: move 24-22 24-18.\n",
     ),
     (
         &[Cue::Types(b"double"), Cue::Hears(b"** You can't double.\r\n"), Cue::Rests],
-        "** You can't double.\nbob declined? Go on: send roll\n",
+        "** You can't double.\nbob declined? Go on: roll.\n",
     ),
     (
         &[
@@ -59,7 +53,7 @@ static OFFERS: [Scene; 13] = [
             Cue::Hears(TO_ROLL),
             Cue::Rests,
         ],
-        "bob declined? Go on: send roll\n",
+        "bob declined? Go on: roll.\n",
     ),
     (
         &[
@@ -140,7 +134,7 @@ static OFFERS: [Scene; 13] = [
             Cue::Hears(MOVED),
             Cue::Rests,
         ],
-        "bob waits for your answer: send accept, or send reject.\n",
+        "bob waits for your answer: accept, or reject.\n",
     ),
     (
         &[
@@ -166,7 +160,7 @@ const WON_BY_MORE: &[u8] =
 static ORDER: [Scene; 4] = [
     (
         &[Cue::Hears(AUTOMOVE), Cue::Hears(b"bob wants to resign. You will win 1 point.\r\n"), Cue::Rests],
-        "You will win 1 point.\nbob offers to resign: send accept, or send reject.\n",
+        "You will win 1 point.\nbob offers to resign: accept, or reject.\n",
     ),
     (
         &[Cue::Hears(b"** You can't double.\r\n"), Cue::Rests, Cue::Hears(MAY_NOT_DOUBLE), Cue::Rests],
@@ -180,7 +174,7 @@ static ORDER: [Scene; 4] = [
             Cue::Types(b"help"),
             Cue::Rests,
         ],
-        "about a word.\nIf it is your turn: send roll, or send double\n",
+        "about a word.\nIf it is your turn: roll, or double.\n",
     ),
     (
         &[Cue::Loses, Cue::Opens, Cue::Hears(WELCOME), Cue::Hears(SETTINGS), Cue::Hears(WON_BY_MORE), Cue::Rests],
@@ -208,21 +202,22 @@ static RESIGNED: [Scene; 5] = [
             Cue::Hears(b"** 1 user heard you.\r\n"),
             Cue::Rests,
         ],
-        "bob offers to resign: send accept, or send reject.\n** 1 user heard you.\n",
+        "bob offers to resign: accept, or reject.\n** 1 user heard you.\n",
     ),
     (
         &[
             Cue::Hears(MOVED),
             Cue::Hears(b"bob wants to resign. You will win 1 point.\r\n"),
             Cue::Rests,
-            Cue::Types(b"accept"),
+            Cue::Types(b"say hello"),
+            Cue::Types(b"double"),
             Cue::Rests,
         ],
-        "No board shows it yet. [7 NotYours]\nbob offers to resign: send accept, or send reject.\n",
+        "No board shows it yet. [7 NotYours]\nbob offers to resign: accept, or reject.\n",
     ),
     (
         &[Cue::Hears(b"bob wants to resign. You will win 1 point.\r\n"), Cue::Rests],
-        "bob offers to resign: send accept, or send reject.\nYour turn: roll, or double.\n",
+        "bob offers to resign: accept, or reject.\nYour turn: roll, or double.\n",
     ),
     (
         &[Cue::Hears(MOVED), Cue::Hears(b"eve wants to resign. carol will win 1 point.\r\n"), Cue::Rests],
@@ -230,7 +225,7 @@ static RESIGNED: [Scene; 5] = [
     ),
     (
         &[Cue::Types(b"roll"), Cue::Hears(b"** You have to accept or reject bob's offer.\r\n"), Cue::Rests],
-        "bob waits for your answer: send accept, or send reject.\n",
+        "bob waits for your answer: accept, or reject.\n",
     ),
 ];
 
@@ -253,7 +248,7 @@ static DECIDED: [Scene; 10] = [
             Cue::Hears(TO_ROLL),
             Cue::Rests,
         ],
-        " You roll, or double, or resign.\nThe board is as it was: send roll, or send double\n",
+        " You roll, or double, or resign.\nThe board is as it was: roll, or double.\n",
     ),
     (&[Cue::Types(b"roll"), Cue::Hears(b"You roll 6 and 2.\r\n"), Cue::Rests], "sent roll\nYou roll 6 and 2.\n"),
     (
@@ -288,7 +283,7 @@ static DECIDED: [Scene; 10] = [
             Cue::Hears(b"It's your turn to roll or double.\r\n"),
             Cue::Rests,
         ],
-        " You roll, or double, or resign.\nThe board is as it was: send roll, or send double\n",
+        " You roll, or double, or resign.\nThe board is as it was: roll, or double.\n",
     ),
     (
         &[
@@ -346,7 +341,7 @@ static ENDS: [Scene; 9] = [
             Cue::Hears(b"Type 'join' if you want to play the next game, type 'leave' if you don't.\r\n"),
             Cue::Rests,
         ],
-        "if you don't.\nThe game is over: join goes on, leave saves the match.\n",
+        "bob gives up. You win 1 point.\nThe game is over: join goes on, leave saves the match.\n",
     ),
     (
         &[
@@ -377,7 +372,7 @@ static ENDS: [Scene; 9] = [
         ],
         "3-1 .\neve wins a 3 point match against carol  3-1 .\n",
     ),
-    (&[Cue::Hears(WON), Cue::Rests], "You win the game by a backgammon, and 3 points. You 3, bob 1 of 3.\n"),
+    (&[Cue::Hears(WON), Cue::Rests], "You win the game by a backgammon, and 3 points, and the 3 point match 3-1.\n"),
     (
         &[Cue::Loses, Cue::Opens, Cue::Hears(WELCOME), Cue::Hears(SETTINGS), Cue::Hears(OVER), Cue::Rests],
         "The game is over: join goes on, leave saves the match.\n",
@@ -392,7 +387,7 @@ static ENDS: [Scene; 9] = [
             Cue::Hears(b"It's your turn to roll or double.\r\n"),
             Cue::Rests,
         ],
-        " You roll, or double, or resign.\nThe board is as it was: send roll, or send double\n",
+        " You roll, or double, or resign.\nThe board is as it was: roll, or double.\n",
     ),
     (
         &[
@@ -408,7 +403,7 @@ static ENDS: [Scene; 9] = [
             Cue::Hears(b"bob rejects. The game continues.\r\n"),
             Cue::Rests,
         ],
-        "bob declined? Go on: send roll, or send double\n",
+        "bob declined? Go on: roll, or double.\n",
     ),
 ];
 
@@ -428,7 +423,7 @@ static LOGINS: [Scene; 6] = [
             Cue::Hears(b"** You're not playing.\r\n"),
             Cue::Rests,
         ],
-        "** You're not playing.\nYour match may be saved: invite bob,\nor join bob, if you are invited.\n",
+        "from localhost.\nYour match may be saved: invite bob,\nor join bob, if you are invited.\n",
     ),
     (
         &[

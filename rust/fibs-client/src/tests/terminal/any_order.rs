@@ -1,6 +1,6 @@
 //! Texts, boards and typed lines in any order, cut anywhere: each row fits, and the conversation goes on.
 
-use super::lines::{FIRST_BOARD, MOVED, SETTINGS, TO_MOVE, TO_ROLL, WELCOME};
+use super::lines::{DOUBLED, FIRST_BOARD, MOVED, OVER, SETTINGS, TO_MOVE, TO_ROLL, WELCOME};
 use super::seats::{Cue, assert_wanted, plain_settings, shown};
 use crate::rattle::alloc::AllocError;
 use crate::rattle::may::*;
@@ -14,13 +14,6 @@ const STEPS: usize = 400;
 const SHORT_CONVERSATIONS: u64 = 3000;
 
 const FEW_STEPS: usize = 24;
-
-/// A double that is offered, and a game that is over.
-const DOUBLED: &[u8] =
-    b"board:You:bob:3:0:1:0:-2:0:0:0:0:5:0:3:0:0:0:-5:5:0:0:0:-3:1:-5:0:0:0:0:1:0:1:0:0:0:0:2:0:1:1:1:-1:0:25:0:0:0:0:2:0:0:0\r\n";
-
-const OVER: &[u8] =
-    b"board:You:bob:3:0:2:0:-2:0:0:0:0:5:0:3:0:0:0:-5:5:0:0:0:-3:0:-5:0:0:0:0:2:0:0:0:0:0:0:1:1:1:0:1:-1:0:25:0:0:0:0:2:0:0:0\r\n";
 
 /// What may happen.
 static EVENTS: [Cue<'static>; 64] = [

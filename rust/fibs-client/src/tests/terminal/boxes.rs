@@ -1,7 +1,7 @@
 //! What has ended is forgotten: two terminals that differ only in what was of a connection, an opponent, a game or a
 //! question that is over say the same ever after.
 
-use super::lines::{FIRST_BOARD, MOVED, SETTINGS, TO_MOVE, TO_ROLL, WELCOME};
+use super::lines::{DOUBLED, FIRST_BOARD, MOVED, OVER, SETTINGS, TO_MOVE, TO_ROLL, WELCOME};
 use super::seats::{Cue, assert_wanted, plain_settings, shown};
 
 /// How many pairs are tried of each law, how much is of what has ended, and how much comes after it.
@@ -11,22 +11,16 @@ const MOST_ENDED: usize = 8;
 
 const LATER: usize = 60;
 
-/// A board of another opponent; one of a double, and one of a game that is over.
+/// A board of another opponent.
 const WITH_CAROL: &[u8] =
     b"board:You:carol:3:0:1:0:-2:0:0:0:0:5:0:3:0:0:0:-5:5:0:0:0:-3:0:-5:0:0:0:0:2:0:1:0:0:0:0:1:1:1:0:1:-1:0:25:0:0:0:0:2:0:0:0\r\n";
-
-const DOUBLED: &[u8] =
-    b"board:You:bob:3:0:1:0:-2:0:0:0:0:5:0:3:0:0:0:-5:5:0:0:0:-3:1:-5:0:0:0:0:1:0:1:0:0:0:0:2:0:1:1:1:-1:0:25:0:0:0:0:2:0:0:0\r\n";
-
-const OVER: &[u8] =
-    b"board:You:bob:3:0:2:0:-2:0:0:0:0:5:0:3:0:0:0:-5:5:0:0:0:-3:0:-5:0:0:0:0:2:0:0:0:0:0:0:1:1:1:0:1:-1:0:25:0:0:0:0:2:0:0:0\r\n";
 
 /// A board of a game that is watched.
 const WATCHED: &[u8] =
     b"board:dave:eve:5:0:1:0:-2:0:0:0:0:5:0:3:0:0:0:-5:5:0:0:0:-3:0:-5:0:0:0:0:2:0:1:6:2:0:0:1:1:1:0:1:-1:0:25:0:0:0:0:2:0:0:0\r\n";
 
 /// What may come at any time, and is of no offer and of no other match.
-static OF_A_CONNECTION: [Cue<'static>; 34] = [
+static OF_A_CONNECTION: [Cue<'static>; 36] = [
     Cue::Rests,
     Cue::Rests,
     Cue::Hears(TO_ROLL),
@@ -45,6 +39,8 @@ static OF_A_CONNECTION: [Cue<'static>; 34] = [
     Cue::Types(b"send unwatch"),
     Cue::Types(b"join"),
     Cue::Types(b"plays"),
+    Cue::Types(b"quit"),
+    Cue::Types(b"quit"),
     Cue::Hears(b"7 bob bob logs in.\r\n"),
     Cue::Hears(b"7 bob bob logs in.\r\n"),
     Cue::Hears(b"8 bob bob drops connection.\r\n"),
@@ -64,7 +60,7 @@ static OF_A_CONNECTION: [Cue<'static>; 34] = [
 ];
 
 /// What is of an opponent and of the match with him, and no decision waits after it.
-static OF_AN_OPPONENT: [Cue<'static>; 16] = [
+static OF_AN_OPPONENT: [Cue<'static>; 18] = [
     Cue::Rests,
     Cue::Hears(TO_ROLL),
     Cue::Hears(TO_MOVE),
@@ -81,10 +77,12 @@ static OF_AN_OPPONENT: [Cue<'static>; 16] = [
     Cue::Hears(b"bob rolls 3 and 1.\r\n"),
     Cue::Hears(b"bob wins the game and gets 1 point. Sorry.\r\n"),
     Cue::Hears(b"** You're not playing. Type 'join' to play the next game.\r\n"),
+    Cue::Types(b"quit"),
+    Cue::Types(b"quit"),
 ];
 
 /// What comes after it.
-static EVENTS: [Cue<'static>; 96] = [
+static EVENTS: [Cue<'static>; 99] = [
     Cue::Rests,
     Cue::Rests,
     Cue::Rests,
@@ -130,6 +128,9 @@ static EVENTS: [Cue<'static>; 96] = [
     Cue::Types(b"send accept "),
     Cue::Types(b"leave"),
     Cue::Types(b"bye"),
+    Cue::Types(b"bye"),
+    Cue::Types(b"quit"),
+    Cue::Types(b"quit"),
     Cue::Types(b"order roll"),
     Cue::Hears(b"bob rejects. The game continues.\r\n"),
     Cue::Hears(b"bob accepts the double. The cube shows 2.\r\n"),
@@ -314,7 +315,7 @@ fn an_opponent_is_forgotten_when_another_one_is_met() {
 }
 
 /// What is of a game, and is over when the next one begins.
-static OF_A_GAME: [Cue<'static>; 10] = [
+static OF_A_GAME: [Cue<'static>; 12] = [
     Cue::Rests,
     Cue::Hears(TO_ROLL),
     Cue::Hears(TO_MOVE),
@@ -325,6 +326,8 @@ static OF_A_GAME: [Cue<'static>; 10] = [
     Cue::Hears(b"bob wants to resign. You will win 1 point.\r\n"),
     Cue::Hears(b"It's your turn to roll or double.\r\n"),
     Cue::Hears(b"bob rolls 3 and 1.\r\n"),
+    Cue::Types(b"quit"),
+    Cue::Types(b"quit"),
 ];
 
 #[test]
@@ -474,7 +477,7 @@ const LIST_ROW: &[u8] = b"carol                   5        1 -  2\r\n";
 
 /// Asserts that after these steps no match with carol is saved.
 fn assert_none_saved(steps: &[Cue<'_>]) {
-    let before = [&FIRST_BOARD[..], steps].concat();
+    let before = [&FIRST_BOARD[..], &[Cue::Types(b"arrivals")], steps].concat();
     let text = shown_later(&before, &[Cue::Hears(b"7 carol carol logs in.\r\n")]);
     assert_wanted(text == "carol logs in.\n", &text, "no score");
 }

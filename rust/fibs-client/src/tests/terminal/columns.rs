@@ -22,5 +22,5 @@ fn a_row_that_fits_is_whole() {
     let narrow = [&FIRST_BOARD[..], &[Cue::Types(b"columns 26"), Cue::Types(b"words")]].concat();
     assert_has(plain_settings(), &narrow, &["\nYou go down, from 24 to 1.\n"]);
     let narrower = [&FIRST_BOARD[..], &[Cue::Types(b"columns 25"), Cue::Types(b"words")]].concat();
-    assert_has(plain_settings(), &narrower, &["\nYou go down, from 24 to\n1.\n"]);
+    assert_has(plain_settings(), &narrower, &["\nYou go down, from 24 to\n 1.\n"]);
 }

@@ -9,9 +9,6 @@ use crate::fibs_wording::environment::Settings;
 /// What a turn shows after the first messages: one picture, and a row for each other thing.
 const TURN: &str = concat!(
     "Welcome, ann. Last login: 30 December 2002, 12:58, from localhost.
-You are ann, rated 1500.00, experience 0.
-On: allowpip autoboard crawford double
-    moreboards notify
 ",
     to_roll_picture!(),
     " You roll, or double, or resign.
@@ -26,7 +23,7 @@ sent move 24-18 13-11
 );
 
 /// The first messages, and a turn.
-static TURN_STEPS: [Cue<'static>; 16] = [
+static TURN_STEPS: [Cue<'static>; 15] = [
     Cue::Hears(WELCOME),
     Cue::Hears(SETTINGS),
     Cue::Hears(TO_ROLL),
@@ -42,7 +39,6 @@ static TURN_STEPS: [Cue<'static>; 16] = [
     Cue::Types(b"move 23-22"),
     Cue::Rests,
     Cue::Types(b" 24/18 13/11 "),
-    Cue::Rests,
 ];
 
 #[test]
@@ -104,7 +100,7 @@ fn each_of_many_boards_is_drawn() {
     let boards: Vec<String> = (0..20).map(|number| board.replace(":bob:", &format!(":bob{number}:"))).collect();
     let steps: Vec<Cue<'_>> = boards.iter().flat_map(|board| [Cue::Hears(board.as_bytes()), Cue::Rests]).collect();
     let text = shown(plain_settings(), &[Cue::Hears(WELCOME), Cue::Hears(SETTINGS)], &steps);
-    let mut rows = text.lines().skip(4);
+    let mut rows = text.lines().skip(1);
     assert_wanted(rows.clone().count() == 20 * 15, &text, "20 pictures with their hints");
     for number in 0..20 {
         let drawn: Vec<&str> = rows.by_ref().take(15).collect();
@@ -135,7 +131,7 @@ static TYPED: [Scene; 25] = [
     ),
     (&[Cue::Types(b"exit")], "quit ends the program, bye leaves the server\n"),
     (&[Cue::Types(b"q")], "quit ends the program, bye leaves the server\n"),
-    (&[Cue::Types(b"resign")], "The client then waits for a new board. If it is declined, the screen says more.\n"),
+    (&[Cue::Types(b"resign")], "If it is declined, roll or move: the screen says which.\n"),
     (
         &[Cue::Types(b"accept"), Cue::Rests],
         "That can't be done on this board: help says what can. [8 WrongKind]\nYour turn: roll, or double.\n",
@@ -185,9 +181,8 @@ static HEARD: [Scene; 3] = [
             Cue::Hears(b"5 carol - bob 0 1 1701.00 0 0 1 host - -\r\n"),
             Cue::Hears(b"5 dave - - 1 0 900.05 0 0 1 host - -\r\n"),
             Cue::Hears(b"6\r\n"),
-            Cue::Types(b"players"),
         ],
-        "3 players: type players
+        "sent who
 player                  rating  points    idle   does
 bob                    1623.45       0     0 m   plays ann
 carol                  1701.00       0     0 m   watches bob, away
@@ -206,7 +201,7 @@ fn lines_of_the_server_are_shown() {
 static BOLD_ROWS: [&str; 3] = [
     " | X                |   | \x1b[1mO\x1b[0m                |     dice  \x1b[1m6\x1b[0m \x1b[1m2\x1b[0m\n",
     " | X           \x1b[1mO\x1b[0m    |   | \x1b[1mO\x1b[0m              X |     score 0\n",
-    " |                  |BAR|                  |   cube 1, free\n",
+    " |                  |BAR|                  |   cube 1, centred\n",
 ];
 
 /// The first board with dice.

@@ -22,7 +22,7 @@ const BACKGAMMON: &[u8] =
 static ENDINGS: [Scene; 4] = [
     (&[Cue::Hears(AT_TWO), Cue::Hears(WON_AT_TWO)], "\nYou win the game, and 2 points. You 2, bob 1 of 3.\n"),
     (&[Cue::Hears(GAMMON)], "\nYou win the game by a gammon, and 2 points. You 2, bob 1 of 3.\n"),
-    (&[Cue::Hears(BACKGAMMON)], "\nYou win the game by a backgammon, and 3 points. You 3, bob 1 of 3.\n"),
+    (&[Cue::Hears(BACKGAMMON)], "\nYou win the game by a backgammon, and 3 points, and the 3 point match 3-1.\n"),
     (
         &[Cue::Loses, Cue::Opens, Cue::Hears(WELCOME), Cue::Hears(SETTINGS), Cue::Hears(WON_AT_TWO)],
         "\nThe game is over. You 2, bob 1 of 3.\n",

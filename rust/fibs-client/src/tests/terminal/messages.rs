@@ -1,16 +1,15 @@
 //! Messages, and their words.
 
 use super::super::boards::TO_ROLL;
+use super::lines::SETTINGS;
 use super::seats::{Cue, assert_shows, assert_wanted, plain_settings, shown};
+use crate::fibs_session::{DirectoryFault, PlainFault};
 use crate::fibs_wording::environment::Settings;
+use crate::fibs_wording::reasons::{append_login_fault, append_unnoted};
 
 /// A line of the server, and what is shown of it.
-static LINES: [(&[u8], &str); 16] = [
+static LINES: [(&[u8], &str); 22] = [
     (b"1 ann 1041253132 localhost\r\n", "Welcome, ann. Last login: 30 December 2002, 12:58, from localhost.\n"),
-    (
-        b"2 ann 1 1 0 0 0 0 1 1 0 0 1 0 1 1500.00 0 0 none 0 0 UTC\r\n",
-        "You are ann, rated 1500.00, experience 0.\nOn: allowpip autoboard crawford double\n    moreboards notify\n",
-    ),
     (b"12 bob hi\r\n", "13:07 bob says: hi\n"),
     (b"13 bob Anybody\\?\r\n", "13:07 bob shouts: Anybody\\?\n"),
     (b"15 bob \x1b[2J\r\n", "13:07 bob kibitzes: \\x1b[2J\n"),
@@ -20,6 +19,16 @@ static LINES: [(&[u8], &str); 16] = [
     (b"10 carol\r\n", "Your message reached carol.\n"),
     (b"7 carol carol logs in.\r\n", "carol logs in.\n"),
     (b"8 carol\r\n", "carol leaves.\n"),
+    (b"7 carol hi!\r\n", "hi!\n"),
+    (b"9 carol 1041253132 \x1b[2J\r\n", "carol left a message on 30 December 2002, 12:58: \\x1b[2J\n"),
+    (
+        b"1 a_name_of_more_than_24_bytes_in_all 1041253132 localhost\r\n",
+        "Welcome, a_name_of_more_than_24_b. Last login: 30 December 2002, 12:58,\nfrom localhost.\n",
+    ),
+    (b"1 ann 1042502399 \x1b[2J\r\n", "Welcome, ann. Last login: 13 January 2003, 23:59, from \\x1b[2J.\n"),
+    (b"18 hello\r\n", "13:07 You whisper: hello\n"),
+    (b"19 hello\r\n", "13:07 You kibitz: hello\n"),
+    (b"11 carol\r\n", "Your message is kept for carol.\n"),
     (b"4\r\n", ""),
     (b"5 bob - - 1 0 1623.45 0 0 1 host - -\r\n6\r\n", ""),
     (b"12\r\n", "A message that can't be read: field 1 is missing [12 Missing]\n12\n"),
@@ -32,6 +41,15 @@ fn messages_are_worded() {
     for (line, rows) in &LINES {
         assert_shows(plain_settings(), &[Cue::Hears(line)], rows);
     }
+}
+
+/// The first message 2 is in the row that ends the login; another one is told whole.
+#[test]
+fn settings_that_come_again_are_worded() {
+    let rows =
+        "You are ann, rated 1500.00, experience 0.\nOn: allowpip autoboard crawford double\n    moreboards notify\n";
+    assert_shows(plain_settings(), &[Cue::Hears(SETTINGS)], "");
+    assert_shows(plain_settings(), &[Cue::Hears(SETTINGS), Cue::Hears(SETTINGS)], rows);
 }
 
 /// What the user says is talk too; a text is not hidden since it begins as one that says no more than the hint.
@@ -121,4 +139,34 @@ fn what_a_terminal_obeys_is_told() {
         let is_told = text.contains("\\x1b[2J");
         assert_wanted(is_harmless && is_told == *is_shown, &format!("{text:?} of {line:?}"), "escaped bytes");
     }
+}
+
+/// Why somebody can't log in, and why a player finds no place in the list.
+#[test]
+fn reasons_of_a_login_and_of_a_list_are_their_own() {
+    let mut text = Vec::new();
+    append_login_fault(PlainFault::BadText, &mut text).expect("memory");
+    append_login_fault(PlainFault::TooLong, &mut text).expect("memory");
+    append_unnoted(DirectoryFault::Full, &mut text).expect("memory");
+    let wanted = "A password has printable ASCII characters, at least one, no space. [2 BadText]\
+                  A password has at most 64 characters. [3 TooLong]\
+                  The list of players lacks one: it holds 4096. [2 Full]";
+    assert_eq!(String::from_utf8_lossy(&text), wanted);
+}
+
+/// With letters beyond ASCII; and a row has one column less than the terminal.
+#[test]
+fn letters_that_take_room_are_shown() {
+    let settings = Settings { utf8: true, columns: 30, ..plain_settings() };
+    for (line, row) in [
+        ("a \u{ac} b\r\n".as_bytes(), "a \u{ac} b\n"),
+        (b"caf\xe9\r\n", "caf\u{e9}\n"),
+        ("a \u{1160} b\r\n".as_bytes(), "a \\xe1\\x85\\xa0 b\n"),
+        (b"a text of twenty-nine columns\r\n", "a text of twenty-nine columns\n"),
+        (b"a text that has thirty columns\r\n", "a text that has thirty\ncolumns\n"),
+    ] {
+        assert_shows(settings, &[Cue::Hears(line)], row);
+    }
+    let settings = Settings { colour: true, ..plain_settings() };
+    assert_shows(settings, &[Cue::Hears(b"12 bob hi\r\n")], "13:07 bob says: hi\n");
 }

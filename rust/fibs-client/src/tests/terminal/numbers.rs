@@ -1,13 +1,8 @@
 //! Places in the user's own numbers, if he goes up by the server's.
 
-use super::lines::{MOVED, POINT_MADE, SETTINGS, TO_MOVE, TO_ROLL, WELCOME};
-use super::seats::{Cue, assert_ends, assert_has, plain_settings, shown};
-use crate::fibs_position::Numbers;
+use super::lines::{MOVED, POINT_MADE, SETTINGS, TO_MOVE, TO_ROLL, UP, WELCOME};
+use super::seats::{Cue, assert_ends, assert_has, own_settings, plain_settings, shown};
 use crate::fibs_wording::environment::Settings;
-
-/// The dice are 6 and 5, and the player, who goes up, has one checker left, on the server's 4: that is his 21.
-const UP: &[u8] =
-    b"board:You:bob:5:0:0:0:0:0:0:-1:0:0:0:0:0:0:0:0:0:0:0:0:0:0:0:2:0:0:0:0:0:-1:6:5:0:0:1:1:1:0:-1:1:25:0:14:13:0:0:1:0:0:0\r\n";
 
 /// The same dice, and a player who goes down from his 24 with his last checker.
 const DOWN: &[u8] =
@@ -20,11 +15,6 @@ const ON_BAR: &[u8] =
 /// The player goes up, and has two checkers left, on the server's 20 and 19: his 5 and 6.
 const HOME: &[u8] =
     b"board:You:bob:5:0:0:0:0:2:0:0:0:0:0:0:0:0:0:0:0:0:0:0:0:0:-1:-1:0:0:0:0:0:-1:6:5:0:0:1:1:1:0:-1:1:25:0:13:13:0:0:1:0:0:0\r\n";
-
-/// The settings of a user who reads his own numbers.
-fn own_settings() -> Settings<'static> {
-    Settings { numbers: Numbers::TheOwn, ..plain_settings() }
-}
 
 /// Steps up to a board, at which the user may type.
 fn on(board: &'static [u8]) -> [Cue<'static>; 4] {
@@ -40,8 +30,8 @@ static TYPED: [(&[u8], &[u8], &str); 20] = [
     (UP, b"4/15", "You have no checker on 4. [9 IllegalPlay]\n"),
     (UP, b"move 4-9 9-15", "You have no checker on 4. [9 IllegalPlay]\n"),
     (UP, b"move 21-17", "No die plays from 21 to 17. [9 IllegalPlay]\n"),
-    (UP, b"plays", "  move 21-16 16-10\n1 legal move.\n"),
-    (UP, b"plays 21", "  move 21-16 16-10\n1 legal move from there.\n"),
+    (UP, b"plays", "  21-16 16-10\n1 legal move.\n"),
+    (UP, b"plays 21", "  21-16 16-10\n1 legal move from there.\n"),
     (UP, b"plays 4", "0 legal moves from there.\n"),
     (UP, b"send move 4-9 9-15", "Type it without send: move 21-16 16-10\n"),
     (UP, b"send move 21-16 16-10", "sent as it is: move 21-16 16-10\n"),
@@ -60,6 +50,21 @@ fn what_is_typed_has_the_users_own_numbers() {
     for (board, line, rows) in &TYPED {
         assert_ends(own_settings(), &on(board), &[Cue::Types(line)], rows);
     }
+}
+
+/// After an offer was declined the row names a move in his numbers, and that is what goes out.
+#[test]
+fn a_move_in_place_of_an_offer_has_the_users_own_numbers() {
+    let declined = [Cue::Types(b"resign g"), Cue::Hears(b"bob rejects. The game continues.\r\n"), Cue::Rests];
+    assert_ends(own_settings(), &on(UP), &declined, "bob declined? Go on: move 21-16 16-10.\n");
+    for typed in [&b"move 21-16 16-10"[..], b"21/10"] {
+        let steps = [&declined[..], &[Cue::Types(typed)]].concat();
+        let text = shown(own_settings(), &on(UP), &steps).replace('\n', " ");
+        let wanted = "sent on the server's word: move 4-9 9-15 (in your numbers 21-16 16-10) ";
+        assert!(text.ends_with(wanted), "{text}");
+    }
+    let steps = [&declined[..], &[Cue::Types(b"move 4-9 9-15")]].concat();
+    assert_ends(own_settings(), &on(UP), &steps, "You have no checker on 4. [9 IllegalPlay]\n");
 }
 
 #[test]
@@ -176,4 +181,33 @@ fn a_move_of_others_is_not_turned_by_an_own_board() {
     assert_ends(own_settings(), &over, &[Cue::Hears(b"eve moves 8-5 6-5 .\r\n")], as_it_came);
     let bobs = "bob moves 8-5 6-5 . (the server's numbers)\n";
     assert_ends(own_settings(), &over, &[Cue::Hears(b"bob moves 8-5 6-5 .\r\n")], bobs);
+}
+
+/// After a match with somebody else has begun the client still reads what is typed on the board that it has: so does
+/// the row that says what was sent.
+#[test]
+fn what_is_sent_before_the_first_board_of_a_match_has_both_numbers() {
+    let begins: [Cue; 1] = [Cue::Hears(b"** You are now playing a 3 point match with eve.\r\n")];
+    let steps = [begins[0], Cue::Types(b"21/10")];
+    assert_ends(own_settings(), &on(UP), &steps, "sent move 4-9 9-15 (in your numbers 21-16 16-10)\n");
+}
+
+/// The rows that answer `oldmoves` say whose numbers they have, until something else is sent.
+#[test]
+fn old_moves_have_the_servers_numbers() {
+    let row: Cue = Cue::Hears(b"X: (6 1) 12-18 17-18 \r\n");
+    let noted = "X: (6 1) 12-18 17-18 (the server's numbers)\n";
+    for board in [UP, DOWN] {
+        assert_ends(own_settings(), &on(board), &[Cue::Types(b"send oldmoves bob"), row], noted);
+        assert_ends(own_settings(), &on(board), &[Cue::Types(b"send oldmoves"), row], noted);
+        assert_ends(
+            own_settings(),
+            &on(board),
+            &[Cue::Types(b"send oldmoves"), Cue::Hears(b"Moves of bob\r\n")],
+            "\nMoves of bob\n",
+        );
+        let after = [Cue::Types(b"send oldmoves"), Cue::Types(b"say Hi"), row];
+        assert_ends(own_settings(), &on(board), &after, "\nX: (6 1) 12-18 17-18 \n");
+        assert_ends(plain_settings(), &on(board), &[Cue::Types(b"send oldmoves"), row], "\nX: (6 1) 12-18 17-18 \n");
+    }
 }

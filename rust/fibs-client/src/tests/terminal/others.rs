@@ -1,6 +1,7 @@
 //! What is said of other players than the opponent: what is known of a match or of an invitation stays.
 
-use super::seats::{Cue, Scene, assert_scenes, plain_settings};
+use super::seats::{Cue, Scene, assert_scenes, plain_settings, shown};
+use crate::fibs_wording::environment::Settings;
 
 /// The opponent has left the game.
 const LEFT: &[u8] = b"** Player bob has left the game. The game was saved.\r\n";
@@ -107,7 +108,12 @@ static LISTS: [Scene; 4] = [
             Cue::Hears(b"5 eve - - 1 0 1500.00 0 0 1 host - -\r\n"),
             Cue::Hears(b"6\r\n"),
         ],
-        "sent who\n2 players: type players\n",
+        "sent who
+player                  rating  points    idle   does
+eve                    1500.00       0     0 m   ready
+bob                    1623.45       0     0 m   ready
+2 players.
+",
     ),
     (
         &[
@@ -158,6 +164,45 @@ dave                    900.05       0     0 m   ready
 2 players.
 ",
 )];
+
+/// If boards are told in words, players are told in sentences, one a row; no row is wider than the terminal.
+static TOLD: [Scene; 2] = [
+    (
+        &[
+            Cue::Hears(LEFT),
+            Cue::Hears(b"5 dave eve - 0 1 900.49 12 7200 1 host - -\r\n"),
+            Cue::Hears(b"5 bob - - 1 0 1623.50 4012 59 1 host - -\r\n"),
+            Cue::Hears(b"5 carol - - 0 0 1700.00 7 90000 1 host - -\r\n"),
+            Cue::Hears(b"6\r\n"),
+            Cue::Types(b"players"),
+        ],
+        "\nbob, rated 1624, experience 4012, ready, your match is saved.\n\
+carol, rated 1700, experience 7, not ready, idle for 1 day.\n\
+dave, rated 900, experience 12, plays eve, away, idle for 2 hours.\n\
+3 players.\n",
+    ),
+    (
+        &[
+            Cue::Types(b"columns 30"),
+            Cue::Hears(b"5 bob - - 1 0 1623.45 4012 0 1 host - -\r\n"),
+            Cue::Types(b"players"),
+        ],
+        "\nbob, rated 1623, experience\n4012, ready.\n1 player.\n",
+    ),
+];
+
+#[test]
+fn players_are_told_in_sentences() {
+    assert_scenes(Settings { words: true, ..plain_settings() }, &TOLD);
+}
+
+/// So is the help.
+#[test]
+fn the_help_is_told_in_sentences() {
+    let told = shown(Settings { words: true, ..plain_settings() }, &[], &[Cue::Types(b"help")]);
+    assert!(told.starts_with("roll rolls your dice; r is the same.\n"), "{told}");
+    assert!(told.lines().all(|row| row.ends_with('.') && !row.contains("  ")), "{told}");
+}
 
 /// A name of more than 24 bytes is whole in a line that is to be typed, which has a row of its own then.
 static LONG_NAMES: [Scene; 4] = [

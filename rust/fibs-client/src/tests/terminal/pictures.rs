@@ -50,7 +50,7 @@ static PICTURES: [Picture; 5] = [
             b" |                  |BAR|                  |   cube 1, in the middle",
             b" | X                |   | O                |   your turn",
             b" | X                |   | O                |     dice  6 2",
-            b" | X           O    |   | O                |     pips  167",
+            b" | X           O    |   | O                |     pips  167 (even race)",
             b" | X           O    |   | O              X |     off   0",
             b" | X           O    |   | O              X |     score 0",
             b" +12-11-10--9--8--7-+---+-6--5--4--3--2--1-+   O You",
@@ -70,7 +70,7 @@ static PICTURES: [Picture; 5] = [
             b" |                  |BAR|                  |   cube 4, the opponent's",
             b" |                  |   | 6                |   your turn",
             b" | X                |   | O                |     dice  -",
-            b" | X           O    |   | O                |     pips  160",
+            b" | X           O    |   | O                |     pips  160 (1 ahead)",
             b" | X           O    |   | O                |     off   0",
             b" | X           O    | X | O              X |     score 2",
             b" +13-14-15-16-17-18-+---+19-20-21-22-23-24-+   O You",
@@ -90,7 +90,7 @@ static PICTURES: [Picture; 5] = [
             b" |                  |BAR|                  |   cube 2, yours",
             b" |12                |   | 7        O       |   your turn",
             b" | X                |   | O        O       |     dice  6 6",
-            b" | X                |   | O        O       |     pips  82",
+            b" | X                |   | O        O       |     pips  82 (91 ahead)",
             b" | X                |   | O        O       |     off   2",
             b" | X                |   | O        O       |     score 1",
             b" +12-11-10--9--8--7-+---+-6--5--4--3--2--1-+   O You",
@@ -110,7 +110,7 @@ static PICTURES: [Picture; 5] = [
             b" |                  |BAR|                  |   cube 1048576, the opponent's",
             b" |                  |15 |                  |   nobody's turn",
             b" |                  | X |                  |     dice  -",
-            b" |                  | X |                  |     pips  0",
+            b" |                  | X |                  |     pips  0 (375 ahead)",
             b" |                  | X |                  |     off   15",
             b" |                  | X |                  |     score 99999999",
             b" +13-14-15-16-17-18-+---+19-20-21-22-23-24-+   O You",
@@ -130,7 +130,7 @@ static PICTURES: [Picture; 5] = [
             b" |                  |BAR|                  |   cube 1048576, in the middle",
             b" |                  |   |               15 |   your turn",
             b" |                  |   |                X |     dice  -",
-            b" |                  |   |                X |     pips  360",
+            b" |                  |   |                X |     pips  360 (even race)",
             b" |                  |   |                X |     off   0",
             b" |                  |   |                X |     score 0",
             b" +12-11-10--9--8--7-+---+-6--5--4--3--2--1-+   O You",
@@ -271,9 +271,9 @@ static LOOKS: [Looks; 4] = [
 12-11-10--9--8--7-+----6--5--4--3--2--1-
 X someplayer, score 1, off 0, pips 167,
 dice -
-match to 3, cube 1, free, your turn
-O You, score 0, off 0, pips 167,
-dice 6 2
+match to 3, cube 1, centred, your turn
+O You, score 0, off 0,
+pips 167 (even race), dice 6 2
 ",
     },
     Looks {
@@ -291,8 +291,8 @@ dice 6 2
  | @           o    |   | o              @ |
  | @           o    |   | o              @ |
  +13-14-15-16-17-18-+---+19-20-21-22-23-24-+
-@ You, score 0, off 0, pips 167, dice 6 2
-match to 3, cube 1, free, your turn
+@ You, score 0, off 0, pips 167 (even race), dice 6 2
+match to 3, cube 1, centred, your turn
 o someplayer, score 1, off 0, pips 167, dice -
 ",
     },
@@ -304,10 +304,10 @@ o someplayer, score 1, off 0, pips 167, dice -
  | [1mO[0m           X    |   | X                |     pips  167
  | [1mO[0m                |   | X                |     dice  -
  | [1mO[0m                |   | X                |   match to 3
- |                  |BAR|                  |   cube 1, free
+ |                  |BAR|                  |   cube 1, centred
  | X                |   | [1mO[0m                |   your turn
  | X                |   | [1mO[0m                |     dice  [1m6[0m [1m2[0m
- | X           [1mO[0m    |   | [1mO[0m                |     pips  167
+ | X           [1mO[0m    |   | [1mO[0m                |     pips  167 (even race)
  | X           [1mO[0m    |   | [1mO[0m              X |     off   0
  | X           [1mO[0m    |   | [1mO[0m              X |     score 0
  +12-11-10--9--8--7-+---+-6--5--4--3--2--1-+   O You
@@ -324,7 +324,7 @@ o someplayer, score 1, off 0, pips 167, dice -
  |                  |BAR|                  |   cube 1, in the middle
  | X                |   | O                |   your turn
  | X                |   | O                |     dice  6 2
- | X           O    |   | O                |     pips  167
+ | X           O    |   | O                |     pips  167 (even race)
  | X           O    |   | O              X |     off   0
  | X           O    |   | O              X |     score 0
  +12-11-10--9--8--7-+---+-6--5--4--3--2--1-+   O You

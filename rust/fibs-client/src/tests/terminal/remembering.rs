@@ -1,7 +1,7 @@
 //! What a terminal remembers, and for how long.
 
-use super::lines::{FIRST_BOARD, MOVED, POINT_MADE, SETTINGS, TO_MOVE, TO_ROLL, WELCOME, to_roll_picture};
-use super::seats::{Cue, Scene, assert_scenes, assert_wanted, colour_settings, plain_settings, shown};
+use super::lines::{FIRST_BOARD, MOVED, POINT_MADE, RESIGNS, SETTINGS, TO_MOVE, TO_ROLL, WELCOME, to_roll_picture};
+use super::seats::{Cue, Scene, assert_scenes, assert_wanted, bell_settings, colour_settings, plain_settings, shown};
 use crate::fibs_wording::environment::Settings;
 
 /// The first board against another opponent.
@@ -32,14 +32,6 @@ const ENTRY_CLOSED: &[u8] =
 const GAME_OVER: &[u8] =
     b"board:You:bob:3:0:1:0:-2:0:0:0:0:5:0:3:0:0:0:-5:5:0:0:0:-3:0:-5:0:0:0:0:2:0:0:0:0:0:0:1:1:1:0:1:-1:0:25:0:0:0:0:2:0:0:0\r\n";
 
-/// What the server says of one who wants to resign.
-const RESIGNS: &[u8] = b"bob wants to resign. You will win 1 point.\r\n";
-
-/// The settings of a plain terminal with a bell.
-fn bell_settings() -> Settings<'static> {
-    Settings { bell: true, ..plain_settings() }
-}
-
 /// Of a connection that is lost nothing is said, and of one before it neither.
 static LOST: [Scene; 3] = [
     (&[Cue::Hears(RESIGNS), Cue::Loses, Cue::Rests], "point.\n\x07lost: open connects again, quit ends\n"),
@@ -67,7 +59,7 @@ const BOB_LOGS_IN: &[u8] = b"7 bob bob logs in.\r\n";
 static OTHER_CONNECTIONS: [Scene; 5] = [
     (
         &[Cue::Hears(BOB_AND_EVE), Cue::Loses, Cue::Opens, Cue::Types(b"words")],
-        "connected to fibs.com:4321\nNo board on which you play was shown.\n",
+        "connected to fibs.com:4321\nYou are in no match: invite NAME 5 begins one.\n",
     ),
     (
         &[
@@ -92,7 +84,7 @@ static OTHER_CONNECTIONS: [Scene; 5] = [
             Cue::Hears(b"** You're not playing.\r\n"),
             Cue::Rests,
         ],
-        "** You're not playing.\n",
+        "from localhost.\ncarol (1701.00): ready\n",
     ),
     (
         &[
@@ -175,7 +167,7 @@ fn what_is_of_another_connection_or_opponent_is_forgotten() {
 static PASSED: [Scene; 4] = [
     (
         &[Cue::Hears(MOVED), Cue::Hears(RESIGNS), Cue::Rests, Cue::Types(b"send accept"), Cue::Rests],
-        "send reject.\nsent as it is: accept\n",
+        "or reject.\nsent as it is: accept\n",
     ),
     (
         &[
@@ -185,7 +177,7 @@ static PASSED: [Scene; 4] = [
             Cue::Hears(b"** You did already roll the dice.\r\n"),
             Cue::Rests,
         ],
-        "** You did already roll the dice.\nbob waits for your answer: send accept, or send reject.\n",
+        "** You did already roll the dice.\nbob waits for your answer: accept, or reject.\n",
     ),
     (
         &[
@@ -197,7 +189,7 @@ static PASSED: [Scene; 4] = [
             Cue::Types(b"send roll"),
             Cue::Rests,
         ],
-        "The board is as it was: send roll, or send double\nsent as it is: roll\n",
+        "The board is as it was: roll, or double.\nsent as it is: roll\n",
     ),
     (
         &[
@@ -209,7 +201,7 @@ static PASSED: [Scene; 4] = [
             Cue::Types(b"pip"),
             Cue::Rests,
         ],
-        "sent as it is: pip\nThe board is as it was: send roll, or send double\n",
+        "sent as it is: pip\nThe board is as it was: roll, or double.\n",
     ),
 ];
 
@@ -361,6 +353,7 @@ fn the_move_that_was_tried_last_is_sent() {
 static LISTS: [Scene; 3] = [
     (
         &[
+            Cue::Types(b"arrivals"),
             Cue::Types(b"who"),
             Cue::Hears(b"5 bob - - 1 0 1623.45 0 0 1 host - -\r\n"),
             Cue::Hears(b"5 carol - - 1 0 1701.00 0 0 1 host - -\r\n"),
@@ -368,10 +361,17 @@ static LISTS: [Scene; 3] = [
             Cue::Hears(b"5 dave - - 1 0 900.05 0 0 1 host - -\r\n"),
             Cue::Hears(b"6\r\n"),
         ],
-        "sent who\n2 players: type players\ndave (900.05): ready\n",
+        "sent who
+player                  rating  points    idle   does
+bob                    1623.45       0     0 m   ready
+carol                  1701.00       0     0 m   ready
+2 players.
+dave (900.05): ready
+",
     ),
     (
         &[
+            Cue::Types(b"arrivals"),
             Cue::Hears(b"5 bob - - 1 0 1623.45 0 0 1 host - -\r\n"),
             Cue::Hears(b"6\r\n"),
             Cue::Hears(b"5 dave - - 1 0 900.05 0 0 1 host - -\r\n"),

@@ -1,6 +1,7 @@
 //! A client and a terminal, to which a server's lines and typed lines are given.
 
 use super::lines::FIRST_BOARD;
+use crate::fibs_advice::standing::Standing;
 use crate::fibs_connect::fault::FrontFault;
 use crate::fibs_connect::front::Front;
 use crate::fibs_connect::said::Said;
@@ -12,10 +13,13 @@ use crate::fibs_position::{GameBoard, Numbers};
 use crate::fibs_session::typed::typing::{Typed, read_typed};
 use crate::fibs_session::{Client, Directory, Login, Taken};
 use crate::fibs_terminal::Terminal;
-use crate::fibs_wording::environment::{Settings, Zone};
+use crate::fibs_wording::environment::{RecordFile, Settings, Zone};
+use crate::rattle::HostRuntime;
 use crate::rattle::io;
 use crate::rattle::io::{ErrorKind, Write};
 use crate::rattle::time::{Clock, Duration};
+use std::cell::Cell;
+use std::fmt;
 
 /// A clock that stands still, at 13:07 on 5 January 2003.
 #[derive(Clone, Copy)]
@@ -48,6 +52,19 @@ pub enum Cue<'a> {
     Loses,
 }
 
+impl fmt::Debug for Cue<'_> {
+    fn fmt(&self, f: &mut fmt::Formatter<'_>) -> fmt::Result {
+        match self {
+            Cue::Hears(line) => write!(f, "< {}", line.escape_ascii()),
+            Cue::Types(line) => write!(f, "> {}", line.escape_ascii()),
+            Cue::Rests => f.write_str("rests"),
+            Cue::Opens => f.write_str("opens"),
+            Cue::Fails => f.write_str("fails"),
+            Cue::Loses => f.write_str("loses"),
+        }
+    }
+}
+
 /// The settings of a plain terminal of 80 columns.
 pub fn plain_settings() -> Settings<'static> {
     Settings {
@@ -56,9 +73,13 @@ pub fn plain_settings() -> Settings<'static> {
         is_turned: false,
         numbers: Numbers::TheServers,
         columns: 80,
+        rows: 0,
+        scrolls_below: false,
+        above: None,
         colour: false,
         bell: false,
         words: false,
+        is_short: false,
         utf8: false,
         zone: Zone::utc(),
         host: b"fibs.com",
@@ -70,6 +91,8 @@ pub fn plain_settings() -> Settings<'static> {
 struct TestSeat {
     client: Client,
     directory: Directory,
+    /// The line that was typed last ends the program.
+    has_ended: bool,
 }
 
 impl TestSeat {
@@ -79,7 +102,7 @@ impl TestSeat {
         let mut client = Client::new(login);
         let _login = client.open();
         let directory = Directory::new();
-        TestSeat { client, directory }
+        TestSeat { client, directory, has_ended: false }
     }
 
     /// Tells what the server says by a line.
@@ -115,7 +138,9 @@ impl TestSeat {
     fn take_line<F: Words>(&mut self, line: &[u8], front: &mut F) -> Result<(), FrontFault> {
         let mut typed = TypedLine::new();
         let _fits = typed.try_extend_from_slice(line);
-        match front.wish(&self.client, &self.directory, &mut typed)? {
+        let wish = front.wish(&self.client, &self.directory, &mut typed)?;
+        self.has_ended = matches!(wish, Wish::Quit);
+        match wish {
             Wish::Say => self.say(typed.as_slice(), front),
             Wish::Send => front.tell(&Said::Passed(typed.as_slice())),
             Wish::Open | Wish::Players | Wish::Quit | Wish::TooLong | Wish::Listen | Wish::Answered => Ok(()),
@@ -210,6 +235,55 @@ pub fn show_on<W: Write>(
     TestSeat::new().take_both(before, steps, &mut terminal)
 }
 
+/// What the screen shows after some steps, if a record is kept in a folder; then nothing more is heard.
+pub fn shown_with_record(folder: &str, steps: &[Cue<'_>]) -> String {
+    let mut shown = Vec::new();
+    let mut terminal = Terminal::new(&mut shown, Stopped, plain_settings());
+    terminal.keep_record(RecordFile::at(&HostRuntime, folder.into()).expect("there is memory"));
+    TestSeat::new().take_steps(steps, &mut terminal).expect("it is shown");
+    terminal.end_record().expect("it is shown");
+    drop(terminal);
+    String::from_utf8(shown).expect("it is UTF-8")
+}
+
+/// What the screen shows after some steps, by another clock.
+pub fn shown_by<C: Clock>(clock: C, steps: &[Cue<'_>]) -> String {
+    let mut shown = Vec::new();
+    let mut terminal = Terminal::new(&mut shown, clock, plain_settings());
+    TestSeat::new().take_steps(steps, &mut terminal).expect("it is shown");
+    drop(terminal);
+    String::from_utf8(shown).expect("it is UTF-8")
+}
+
+/// When a connection is opened again after some steps, the last of which lets the user type.
+pub fn due_after(steps: &[Cue<'_>]) -> Option<Duration> {
+    due_by(Stopped, steps)
+}
+
+/// The same by another clock.
+pub fn due_by<C: Clock>(clock: C, steps: &[Cue<'_>]) -> Option<Duration> {
+    let due = Cell::new(Some(Duration::from_secs(9999)));
+    let mut terminal = Terminal::new(Vec::new(), clock, plain_settings());
+    terminal.reconnect_by(&due);
+    TestSeat::new().take_steps(steps, &mut terminal).expect("it is shown");
+    due.get()
+}
+
+/// Whether the line that was typed last ends the program.
+pub fn ends_after(steps: &[Cue<'_>]) -> bool {
+    let mut terminal = Terminal::new(Vec::new(), Stopped, plain_settings());
+    let mut seat = TestSeat::new();
+    seat.take_steps(steps, &mut terminal).expect("it is shown");
+    seat.has_ended
+}
+
+/// What the user waits for after some steps and those after them.
+pub fn standing_after(before: &[Cue<'_>], steps: &[Cue<'_>]) -> Standing {
+    let mut terminal = Terminal::new(Vec::new(), Stopped, plain_settings());
+    TestSeat::new().take_both(before, steps, &mut terminal).expect("it is shown");
+    terminal.screen.memory.here.situation.standing
+}
+
 /// Asserts that a text is as it is wanted.
 pub fn assert_wanted(is_wanted: bool, text: &str, wanted: &str) {
     assert!(is_wanted, "wanted {wanted}, and there is {text}");
@@ -218,6 +292,12 @@ pub fn assert_wanted(is_wanted: bool, text: &str, wanted: &str) {
 /// Asserts that a text is answered as it should be.
 pub fn assert_of(is_right: bool, text: &[u8]) {
     assert!(is_right, "{text:?}");
+}
+
+/// What the screen shows of some steps after those before them.
+pub fn shown_then(settings: Settings<'_>, before: &[Cue<'_>], steps: &[Cue<'_>]) -> String {
+    let known = shown(settings, before, &[]).len();
+    shown(settings, before, steps).split_off(known)
 }
 
 /// Asserts what the screen shows after some steps.
@@ -248,6 +328,16 @@ pub fn assert_has(settings: Settings<'_>, steps: &[Cue<'_>], rows: &[&str]) {
     for row in rows {
         assert_wanted(text.contains(*row), &text, row);
     }
+}
+
+/// The settings of a terminal whose user reads his own numbers.
+pub fn own_settings() -> Settings<'static> {
+    Settings { numbers: Numbers::TheOwn, ..plain_settings() }
+}
+
+/// The settings of a terminal with a bell.
+pub fn bell_settings() -> Settings<'static> {
+    Settings { bell: true, ..plain_settings() }
 }
 
 /// The settings of a terminal of 80 columns, with colours.

@@ -1,6 +1,6 @@
 //! Lines as players type them, and what is sent.
 
-use super::lines::{SETTINGS, WELCOME};
+use super::lines::{SETTINGS, UP, WELCOME};
 use super::seats::{Cue, assert_ends, plain_settings};
 
 /// A board with the dice 6 and 5, on which the player goes down.
@@ -8,19 +8,37 @@ const BOARD: &[u8] =
     b"board:You:bob:3:0:1:0:-2:0:0:0:0:5:0:3:0:0:0:-5:5:0:0:0:-3:0:-5:0:0:0:0:2:0:1:6:5:0:0:1:1:1:0:1:-1:0:25:0:0:0:0:2:0:0:0\r\n";
 
 /// What is typed, and the end of what is shown then.
-static LINES: [(&[u8], &str); 22] = [
+static LINES: [(&[u8], &str); 40] = [
     (b"24/13", "sent move 24-18 18-13\n"),
     (b"24/18/13", "sent move 24-18 18-13\n"),
     (b"M 24/18 13/8", "sent move 24-18 13-8\n"),
     (b"24-18 13-8", "sent move 24-18 13-8\n"),
     (b"13/8 24/18*", "sent move 13-8 24-18\n"),
+    (b"move 24-18* 13-8*", "sent move 24-18 13-8\n"),
+    (b"24/18*/13 *", "sent move 24-18 18-13\n"),
+    (b"13/8*(1) 24/18(1)*", "sent move 13-8 24-18\n"),
+    (b"say 13/8* is best", "sent say 13/8* is best\n"),
     (b"move 24-13", "[9 IllegalPlay]\n"),
     (b"13/7(2)", "[9 IllegalPlay]\n"),
     (b"bar/20 24/18", "[9 IllegalPlay]\n"),
     (b"R", "[8 WrongKind]\n"),
     (b" Double ", "[8 WrongKind]\n"),
     (b"a", "unknown: help lists the words\n"),
-    (b"d", "unknown: help lists the words\n"),
+    (b"d", "\nd: double?\n"),
+    (b"take", "\ntake: accept?\n"),
+    (b"Pass", "\npass: reject?\n"),
+    (b"drop", "\ndrop: reject?\n"),
+    (b"score", "\nscore: board?\n"),
+    (b"cube", "\ncube: board?\n"),
+    (b"rol", "\nrol: roll?\n"),
+    (b"rolll", "\nrolll: roll?\n"),
+    (b"rool", "\nrool: roll?\n"),
+    (b"rlol", "\nrlol: roll?\n"),
+    (b"jion bob", "\njion: join?\n"),
+    (b"acept", "\nacept: accept?\n"),
+    (b"ro", "unknown: help lists the words\n"),
+    (b"rollroll", "unknown: help lists the words\n"),
+    (b"r\x1bll", "\nr\\x1bll: roll?\n"),
     (b"k Nice  roll ", "sent kibitz Nice  roll \n"),
     (b"T bob Hi", "sent tell bob Hi\n"),
     (b"  say  Hi ", "sent say  Hi \n"),
@@ -50,10 +68,6 @@ const HOME: &[u8] =
 
 const ON_BAR: &[u8] =
     b"board:You:bob:5:0:0:0:0:0:-2:0:0:0:0:0:0:0:0:0:0:0:0:0:0:0:0:0:0:0:0:0:1:1:6:5:0:0:1:1:1:0:1:-1:0:25:14:13:1:0:1:0:0:0\r\n";
-
-/// The same dice, and a player who goes up from 4 with his last checker.
-const UP: &[u8] =
-    b"board:You:bob:5:0:0:0:0:0:0:-1:0:0:0:0:0:0:0:0:0:0:0:0:0:0:0:2:0:0:0:0:0:-1:6:5:0:0:1:1:1:0:-1:1:25:0:14:13:0:0:1:0:0:0\r\n";
 
 /// A board, a move that is typed there, and the end of what is shown then. Nothing is sent if two moves may be meant,
 /// or if only a part of one was typed.

@@ -1,7 +1,7 @@
 //! What the user waits for: the table of states, computed. No state is a dead end.
 
 use crate::fibs_advice::standing::{Shown, Standing};
-use crate::fibs_advice::told::Told;
+use crate::fibs_events::told::Told;
 
 /// All states.
 const STATES: [Standing; 25] = [

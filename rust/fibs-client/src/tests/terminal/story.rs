@@ -1,8 +1,10 @@
 //! The game so far: each play of a game is told by the boards before and after it.
 
+use crate::fibs_events::finding::played;
+use crate::fibs_events::mirror::mirrored;
 use crate::fibs_fields::boards::Board;
 use crate::fibs_position::{Decision, GameBoard, Numbers, Play, effect};
-use crate::fibs_terminal::story::{Story, mirrored, played};
+use crate::fibs_terminal::story::Story;
 
 /// The board with which a game begins, without dice.
 const FIRST: &[u8] = b"board:You:bob:3:0:0:0:-2:0:0:0:0:5:0:3:0:0:0:-5:5:0:0:0:-3:0:-5:0:0:0:0:2:0:1:0:0:0:0:1:1:1:0:1:-1:0:25:0:0:0:0:0:0:0:0";
@@ -132,4 +134,67 @@ fn a_match_of_another_length_has_a_story_of_its_own() {
     let other = Board::read(longer.as_bytes()).expect("a board");
     assert!(story_of(&[before, after], true).contains("You roll 3 and 1"));
     assert_eq!(story_of(&[before, after, other], true), "No board of this game has shown a roll and its play yet.\n");
+}
+
+/// The line of a board with other fields.
+fn with_fields(line: &[u8], fields: &[(usize, &str)]) -> Board {
+    let mut parts: Vec<_> = line.split(|byte| *byte == b':').map(|part| String::from_utf8_lossy(part)).collect();
+    for (field, value) in fields {
+        parts[*field] = (*value).into();
+    }
+    Board::read(parts.join(":").as_bytes()).expect("a board")
+}
+
+/// A board on which the player can't move.
+const CLOSED: &[u8] =
+    b"board:You:bob:5:0:0:0:0:0:0:0:0:14:0:0:0:0:0:0:0:0:0:0:0:0:-2:-2:-2:-2:-2:-2:1:1:3:1:0:0:1:1:1:0:1:-1:0:25:0:3:1:0:0:0:0:0";
+
+#[test]
+fn who_cannot_move_has_no_move() {
+    let closed = Board::read(CLOSED).expect("a board");
+    let after = with_fields(CLOSED, &[(32, "-1"), (33, "0"), (34, "0")]);
+    assert_eq!(story_of(&[closed, after], false), "  1. You roll 3 and 1: no move\n");
+}
+
+/// A turn: the board with its dice, and the one after it, with the score of the player.
+fn turn(score: &str) -> [Board; 2] {
+    let first = with_fields(FIRST, &[(4, score)]);
+    let before = *rolled(&first, [3, 1]).board();
+    let play = any_play(&good(&before), &mut Chance(7));
+    [before, effect(&before, &Decision::Move(play), [0, 0]).expect("a legal play")]
+}
+
+#[test]
+fn another_score_is_another_game_and_the_end_is_of_the_same() {
+    let (one, other) = (turn("0"), turn("1"));
+    let rows = story_of(&[one[0], one[1], other[0], other[1]], true);
+    assert!(rows.lines().count() == 1 && rows.starts_with("  1. You roll 3 and 1:"), "{rows}");
+    let text = String::from_utf8(one[1].print().as_slice().to_vec()).expect("ASCII");
+    let over = with_fields(text.as_bytes(), &[(4, "1"), (32, "0"), (33, "0"), (34, "0"), (35, "0"), (36, "0")]);
+    let rows = story_of(&[one[0], over], true);
+    assert!(rows.lines().count() == 1 && rows.starts_with("  1. You roll 3 and 1:"), "{rows}");
+}
+
+#[test]
+fn the_last_twenty_turns_are_listed() {
+    let one = turn("0");
+    for (count, before) in [(20, ""), (21, ".. 1 before: moves all\n"), (25, ".. 5 before: moves all\n")] {
+        let rows = story_of(&one.repeat(count), false);
+        assert!(
+            rows.starts_with(before) && rows.lines().filter(|row| row.contains("You roll")).count() == 20,
+            "{rows}"
+        );
+        assert!(rows.contains(&format!("\n{count:3}. You roll")), "{rows}");
+    }
+}
+
+#[test]
+fn a_long_name_is_cut_in_a_story() {
+    let first = with_fields(FIRST, &[(2, "a_name_of_more_than_24_bytes_in_all")]);
+    let before = *rolled(&first, [3, 1]).board();
+    let play = any_play(&good(&before), &mut Chance(7));
+    let after = effect(&before, &Decision::Move(play), [0, 0]).expect("a legal play");
+    let his = rolled(&mirrored(&after), [6, 6]);
+    let rows = story_of(&[before, after, mirrored(his.board()), first], false);
+    assert!(rows.contains("  2. a_name_of_more_than_24_b rolls 6 and 6: "), "{rows}");
 }

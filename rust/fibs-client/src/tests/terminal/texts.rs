@@ -1,6 +1,6 @@
 //! What the texts of a server say of the match, and of whom.
 
-use crate::fibs_advice::told::{Told, read_told};
+use crate::fibs_events::told::{Told, read_told};
 
 /// A text, what it says, and the player whom it names.
 type Row = (&'static str, Option<Told>, &'static str);

@@ -4,9 +4,9 @@ use super::lines::{SETTINGS, WELCOME};
 use super::pictures::PLAIN;
 use super::seats::{Cue, assert_wanted, colour_settings, plain_settings};
 use crate::fibs_fields::boards::Board;
-use crate::fibs_picture::in_words::tell_watched;
+use crate::fibs_picture::in_words::{Told, append_told};
 use crate::fibs_picture::{NO_ARRIVALS, append_watched};
-use crate::fibs_position::{GameBoard, PositionFault, WatchedBoard};
+use crate::fibs_position::{GameBoard, Numbers, PositionFault, WatchedBoard};
 use crate::fibs_wording::environment::Settings;
 
 /// A board, the lines of its picture, and its rows in words.
@@ -30,7 +30,7 @@ static WATCHED: [Watched; 5] = [
  |                  |BAR|                  |   cube 1, in the middle
  | X                |   | O                |   O ann's turn
  | X                |   | O                |     dice  6 2
- | X           O    |   | O                |     pips  167
+ | X           O    |   | O                |     pips  167 (even race)
  | X           O    |   | O              X |     off   0
  | X           O    |   | O              X |     score 0
  +12-11-10--9--8--7-+---+-6--5--4--3--2--1-+   O ann
@@ -44,6 +44,7 @@ ann goes down, from 24 to 1.
 ann, 167 pips: 2 on 24, 5 on 13, 3 on 8, 5 on 6, none off.
 bob, 167 pips: 2 on 1, 5 on 12, 3 on 17, 5 on 19, none off.
 Held against ann: 19, 17, 12, 1.
+Blots: ann's none; bob's none.
 ",
     },
     Watched {
@@ -58,7 +59,7 @@ Held against ann: 19, 17, 12, 1.
  |                  |BAR|                  |   cube 4, X eve's
  |                  |   | 6                |   O ann's turn
  | X                |   | O                |     dice  -
- | X           O    |   | O                |     pips  160
+ | X           O    |   | O                |     pips  160 (1 ahead)
  | X           O    |   | O                |     off   0
  | X           O    | X | O              X |     score 2
  +13-14-15-16-17-18-+---+19-20-21-22-23-24-+   O ann
@@ -72,6 +73,7 @@ ann goes up, from 1 to 24.
 ann, 160 pips: 2 on 1, 4 on 12, 3 on 17, 6 on 19, none off.
 eve, 161 pips: 1 on the bar, 1 on 24, 4 on 13, 3 on 8, 6 on 6, none off.
 Held against ann: 6, 8, 13.
+Blots: ann's none; eve's 24.
 ",
     },
     Watched {
@@ -86,7 +88,7 @@ Held against ann: 6, 8, 13.
  |                  |BAR|                  |   cube 2, O ann's
  |12                |   | 7        O       |   O ann's turn
  | X                |   | O        O       |     dice  6 6
- | X                |   | O        O       |     pips  82
+ | X                |   | O        O       |     pips  82 (91 ahead)
  | X                |   | O        O       |     off   2
  | X                |   | O        O       |     score 1
  +12-11-10--9--8--7-+---+-6--5--4--3--2--1-+   O ann
@@ -100,6 +102,7 @@ ann goes down, from 24 to 1.
 ann, 82 pips: 1 on the bar, 7 on 6, 5 on 3, 2 off.
 bob, 173 pips: 12 on 12, 2 on 19, 1 on 20, none off.
 Held against ann: 19, 12.
+Blots: ann's none; bob's 20.
 ",
     },
     Watched {
@@ -114,7 +117,7 @@ Held against ann: 19, 12.
  |                  |BAR|                  |   cube 1048576, X abcdefghijabcd's
  |                  |15 |                  |   nobody's turn
  |                  | X |                  |     dice  -
- |                  | X |                  |     pips  0
+ |                  | X |                  |     pips  0 (375 ahead)
  |                  | X |                  |     off   15
  |                  | X |                  |     score 99999999
  +13-14-15-16-17-18-+---+19-20-21-22-23-24-+   O abcdefghijabcdefghijabcdefghij
@@ -128,6 +131,7 @@ abcdefghijabcdefghijabcdefghij goes up, from 1 to 24.
 abcdefghijabcdefghijabcdefghij, 0 pips: 15 off.
 abcdefghijabcdefghijabcdefghij, 375 pips: 15 on the bar, none off.
 Held against abcdefghijabcdefghijabcdefghij: none.
+Blots: abcdefghijabcdefghijabcdefghij's none; abcdefghijabcdefghijabcdefghij's none.
 ",
     },
     Watched {
@@ -142,7 +146,7 @@ Held against abcdefghijabcdefghijabcdefghij: none.
  |                  |BAR|                  |   cube 1, no doubling
  | X                |   | O                |   X in's turn
  | X                |   | O                |     dice  -
- | X           O    |   | O                |     pips  167
+ | X           O    |   | O                |     pips  167 (even race)
  | X           O    |   | O              X |     off   0
  | X           O    |   | O              X |     score 0
  +12-11-10--9--8--7-+---+-6--5--4--3--2--1-+   O nobody
@@ -156,6 +160,7 @@ nobody goes down, from 24 to 1.
 nobody, 167 pips: 2 on 24, 5 on 13, 3 on 8, 5 on 6, none off.
 in, 167 pips: 2 on 1, 5 on 12, 3 on 17, 5 on 19, none off.
 Held against nobody: 19, 17, 12, 1.
+Blots: nobody's none; in's none.
 ",
     },
 ];
@@ -166,7 +171,8 @@ fn shown(line: &str) -> (String, String) {
     let watched = WatchedBoard::of(&board).expect("it is watched");
     let (mut drawn, mut told) = (Vec::new(), Vec::new());
     append_watched(&PLAIN, &watched, &NO_ARRIVALS, &mut drawn).expect("there is memory");
-    tell_watched(&watched, &mut told).expect("there is memory");
+    let board = Told::Watched(watched, Numbers::TheServers);
+    append_told(&None, &board, 200, &mut told).expect("there is memory");
     (String::from_utf8(drawn).expect("ASCII"), String::from_utf8(told).expect("ASCII"))
 }
 
@@ -222,6 +228,17 @@ const TO_ROLL: &str = "board:bob:eve:3:0:1:0:-2:0:0:0:0:5:0:3:0:0:0:-5:5:0:0:0:-
 
 const ROLLED: &str = "board:bob:eve:3:0:1:0:-2:0:0:0:0:5:0:3:0:0:0:-5:5:0:0:0:-3:0:-5:0:0:0:0:2:0:1:3:1:0:0:1:1:1:0:1:-1:0:25:0:0:0:0:0:0:0:0";
 
+/// After it: bob has moved 8/5 6/5; and what is new then. And a game of others.
+const MOVED: &str = "board:bob:eve:3:0:1:0:-2:0:0:0:2:4:0:2:0:0:0:-5:5:0:0:0:-3:0:-5:0:0:0:0:2:0:-1:0:0:0:0:1:1:1:0:1:-1:0:25:0:0:0:0:0:0:0:0";
+
+const NEW: &str = "eve's turn.
+bob's dice none, eve's none.
+bob, 163 pips: 2 on 24, 5 on 13, 2 on 8, 4 on 6, 2 on 5, none off.
+eve, 167 pips: 2 on 1, 5 on 12, 3 on 17, 5 on 19, none off.
+";
+
+const OTHERS: &str = "board:ann:eve:3:0:1:0:-2:0:0:0:0:5:0:3:0:0:0:-5:5:0:0:0:-3:0:-5:0:0:0:0:2:0:1:0:0:0:0:1:1:1:0:1:-1:0:25:0:0:0:0:0:0:0:0";
+
 /// The words of the first one, and what is said below a board that is watched.
 const TOLD: &str = "bob against eve.
 bob to roll.
@@ -232,6 +249,7 @@ bob goes down, from 24 to 1.
 bob, 167 pips: 2 on 24, 5 on 13, 3 on 8, 5 on 6, none off.
 eve, 167 pips: 2 on 1, 5 on 12, 3 on 17, 5 on 19, none off.
 Held against bob: 19, 17, 12, 1.
+Blots: bob's none; eve's none.
 ";
 
 const HINT: &str = "You watch bob and eve: unwatch ends it.\n";
@@ -248,18 +266,22 @@ fn seen(settings: Settings<'_>, boards: &[&str]) -> String {
     ];
     let steps: Vec<Cue<'_>> = lines.iter().flat_map(|line| [Cue::Hears(line.as_bytes()), Cue::Rests]).collect();
     let all = super::seats::shown(settings, &before, &steps);
-    let begun = "board shows the game now, unwatch ends it.\n";
+    let begun = "You're now watching bob.\n";
     all.split_once(begun).expect("the user watches").1.to_string()
 }
 
-/// In words, if these are asked for: the board with its hint, and then the dice alone; broken on a narrow terminal.
+/// In words, if these are asked for: the board with its hint, and then the dice alone; broken on a narrow terminal; and
+/// what is new alone of a board that comes later, until one is asked for or is of other players.
 #[test]
 fn a_terminal_tells_watched_boards_in_words() {
     let words = Settings { words: true, ..plain_settings() };
     assert_eq!(seen(words, &[TO_ROLL, TO_ROLL, ROLLED]), format!("{TOLD}{HINT}bob rolls 3 and 1.\n"));
     let narrow = seen(Settings { words: true, columns: 40, ..plain_settings() }, &[TO_ROLL]);
     assert_wanted(narrow.lines().all(|row| row.len() <= 40), &narrow, "40 columns");
-    assert!(narrow.split_whitespace().eq(format!("{TOLD}{HINT}").split_whitespace()), "{narrow}");
+    assert_eq!(narrow.replace("\n ", " "), format!("{TOLD}{HINT}"));
+    let short = seen(Settings { is_short: true, ..words }, &[TO_ROLL, MOVED, OTHERS]);
+    let others = TOLD.replace("bob", "ann");
+    assert_eq!(short, format!("{TOLD}{HINT}{NEW}{others}{}", HINT.replace("bob", "ann")));
 }
 
 /// Of a picture of 40 columns the words of both players are below it, and every place is there.
@@ -271,8 +293,10 @@ fn a_narrow_terminal_has_the_words_of_a_watched_picture_below() {
     assert_eq!(rows[0], "13-14-15-16-17-18-+---19-20-21-22-23-24-");
     let below = [
         "X eve, score 1, off 0, pips 167, dice -",
-        "match to 3, cube 1, free, O bob's turn",
-        "O bob, score 0, off 0, pips 167, dice -",
+        "match to 3, cube 1, centred,",
+        "O bob's turn",
+        "O bob, score 0, off 0,",
+        "pips 167 (even race), dice -",
         HINT.trim_end(),
     ];
     assert_eq!(rows[13..], below);

@@ -1,0 +1,85 @@
+//! What has happened, line by line. Written by hand.
+
+use crate::Reading;
+use crate::fibs_events;
+use crate::fibs_events::event::Event;
+use crate::rattle::alloc::AllocError;
+use std::iter::FusedIterator;
+
+/// What the lines of a client or of a saved session say has happened, as values: who has rolled what, which play was
+/// made, who has won. Boards decide before texts, and nothing is told twice for a board or a text that comes again.
+///
+/// Hear each reading once, in order, over connections too; leave out lines that were cut.
+///
+/// ```
+/// use fibs::{Event, Events, Side, read};
+///
+/// let mut events = Events::new();
+/// let joined = "** Player eve has joined you for a 3 point match.";
+/// for line in ["1 ann 1041253132 localhost", joined, "eve rolls 6 and 3."] {
+///     for event in events.hear(&read(line.as_bytes()))? {
+///         println!("{event:?}");
+///     }
+/// }
+/// assert!(events.hear(&read(b"eve rolls 6 and 3."))?.next().is_none());
+/// let mut rolls = events.hear(&read(b"You roll 4 and 1."))?;
+/// assert_eq!(rolls.next(), Some(Event::Rolled { who: Side::Own, dice: [4, 1] }));
+/// # Ok::<(), fibs::AllocError>(())
+/// ```
+#[derive(Default)]
+pub struct Events {
+    /// In a box: they keep a board.
+    events: Box<Remembered>,
+}
+
+struct Remembered(fibs_events::Events);
+
+impl Default for Remembered {
+    fn default() -> Remembered {
+        Remembered(fibs_events::Events::new())
+    }
+}
+
+impl Events {
+    /// Nothing was heard.
+    pub fn new() -> Events {
+        Events::default()
+    }
+
+    /// What a line says has happened, in order.
+    ///
+    /// # Errors
+    /// If memory runs out; then the line is not taken note of.
+    pub fn hear<'a>(&mut self, reading: &Reading<'a>) -> Result<Happened<'a>, AllocError> {
+        let happened = self.events.0.hear(reading)?;
+        Ok(Happened { events: happened.events(), next: 0 })
+    }
+
+    /// The opponent of the match that is played, or was played last; empty if none is known.
+    pub fn opponent(&self) -> &[u8] {
+        self.events.0.opponent()
+    }
+}
+
+/// The events of one line, in order.
+#[derive(Clone, Debug)]
+pub struct Happened<'a> {
+    events: [Option<Event<'a>>; fibs_events::happened::MOST_EVENTS],
+    next: usize,
+}
+
+impl<'a> Iterator for Happened<'a> {
+    type Item = Event<'a>;
+
+    fn next(&mut self) -> Option<Event<'a>> {
+        while let Some(event) = self.events.get(self.next) {
+            self.next += 1;
+            if event.is_some() {
+                return *event;
+            }
+        }
+        None
+    }
+}
+
+impl FusedIterator for Happened<'_> {}
