@@ -28,16 +28,24 @@ export interface Board {
   mayDouble: boolean;
   opponentMayDouble: boolean;
   wasDoubled: boolean;
+  /** Who may double next; a side that has just redoubled keeps the cube until that is answered. */
+  cubeOwner: Side | 'middle' | 'nobody';
+  /** Whether the game is that of the Crawford rule, in which nobody doubles. */
+  crawford: boolean;
   /** Whether the game is over, and the match with it. */
   matchOver: boolean;
   /** How many checkers each side has borne off. */
   off: Pair;
-  /** Null if the board has no position: then `noPosition` says why. */
+  /** Whether it is a board of a game that the user watches: then the phase, the checkers and the pips are those that
+   * its player sees. */
+  isOthers: boolean;
+  /** Null if a side has too many checkers. */
   phase: Phase | null;
+  /** Why the board has no position on which the user plays: that of others has none. */
   noPosition: 'NotYou' | 'TooManyOwn' | 'TooManyOther' | null;
-  /** Each side's checkers in its own numbers: those borne off, the places 1 to 24, the bar. */
+  /** Each side's checkers in its own numbers: those borne off, the places 1 to 24, the bar. Null as the phase is. */
   checkers: [number[], number[]] | null;
-  /** How many pips each side has to go; null if the board has no position. */
+  /** How many pips each side has to go. Null as the phase is. */
   pips: Pair | null;
 }
 
@@ -123,6 +131,38 @@ export function plays(line: Bytes): string[];
 /** Why a board does not allow a decision, as `roll` or `move 8-5 6-5`; null if it does. */
 export function refusal(line: Bytes, command: Bytes): Disallowed | null;
 
+/** A step of a checker, in the player's own numbers: 25 is the bar, 0 is off. */
+export interface Step { from: number; to: number; die: number; hits: boolean }
+
+/** What may be played on a board of the phase `Move` after some steps. */
+export interface Turn {
+  /** Each side's checkers in its own numbers after the steps, as `checkers` of a board. */
+  checkers: [number[], number[]];
+  /** The dice that are left: after a roll of doubles up to four. */
+  dice: number[];
+  /** The steps that may follow, each of which goes on to a legal play; none if the play is whole. A checker that either
+   * die bears off is there with each, the smaller first. */
+  next: Step[];
+  /** The play of `plays` that leads to the same arrangement; null if more has to be played. */
+  command: string | null;
+}
+
+/** What may be played on a board after these steps. A step without a die takes the smallest that it can be taken by.
+ * Steps that go on to no legal play are refused (`IllegalPlay`), and so is a board of another phase (`NotYours`,
+ * `WrongKind`). */
+export function turn(board: Bytes, steps: { from: number; to: number; die?: number }[]): Turn;
+
+/** The steps of a command `move 8-5 6-5` in the player's own numbers. Another decision has none. */
+export function inOwn(board: Bytes, command: Bytes): { from: number; to: number }[];
+
+/** A board in words, a fact a row, in the player's own numbers: what a terminal tells of it. */
+export function words(board: Bytes): string[];
+
+/** A row of the answer to `show saved`: the opponent, the length of the match, which is null if it is unlimited, the
+ * points of the user and of the opponent, and whether the opponent is logged in. Null if the text is no such row. */
+export function savedMatch(text: Bytes):
+  { name: string; length: number | null; score: Pair; isThere: boolean } | null;
+
 /** The board after the server carried out a decision; a roll throws the dice. A play need not be legal. */
 export function after(line: Bytes, command: Bytes, dice?: Pair): Board;
 
@@ -150,6 +190,45 @@ export class Directory {
   get(name: Bytes): Player | null;
   get players(): Player[];
   clear(): void;
+  close(): void;
+}
+
+type Worth = 'single' | 'gammon' | 'backgammon' | null;
+
+/** What has happened. The places of steps are in the numbers of the one who plays: 25 is the bar, 0 is off. */
+export type Event =
+  | { event: 'loggedIn' | 'invitedToResume' | 'resumed' | 'gameBegun' | 'nothingSaved'; name: string }
+  /** `length` is null if the match is unlimited. */
+  | { event: 'invited' | 'joined'; name: string; length: number | null }
+  | { event: 'rolled'; who: Side; dice: Pair }
+  | { event: 'played'; who: Side; steps: Pair[] }
+  | { event: 'cannotMove' | 'doubled' | 'rejected' | 'declined' | 'left'; who: Side }
+  | { event: 'accepted'; who: Side; offer: 'double' | 'resignation' }
+  /** `worth` is null if no board has shown the cube. */
+  | { event: 'offeredToResign' | 'gameOver'; who: Side; points: number; worth: Worth }
+  /** The score of the player, and of the opponent. */
+  | { event: 'matchOver'; who: Side; length: number; score: Pair }
+  | { event: 'nextGame' | 'notPlaying' }
+  | { event: 'ratingChanged'; who: Side; rating: number; experience: number }
+  | { event: 'refused'; text: string };
+
+/** What lines say has happened. Boards decide before texts, and nothing is told twice for a line that comes again. */
+export class Events {
+  /** What a line says; hear each once, in order, over connections too, but none that was cut. */
+  hear(line: Bytes): Event[];
+  /** The opponent of the match that is played, or was last; empty if none is known. */
+  get opponent(): string;
+  close(): void;
+}
+
+/** Match files of a session, in the format of Jellyfish, which GNU Backgammon imports. */
+export class MatchFiles {
+  /** The user's name, which the greeting of the server replaces. */
+  constructor(name: Bytes);
+  /** Hears a line; hear each once, in order, over connections too, but none that was cut. */
+  hear(line: Bytes): void;
+  /** A file for each match that can be told, in the order in which they began. */
+  get files(): { opponent: string; text: string }[];
   close(): void;
 }
 

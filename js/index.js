@@ -20,6 +20,8 @@ const LIVING = 64;
 const [GIVE, NEXT, UNFINISHED] = [0, 1, 2];
 const [RESET] = [3];
 const [NOTE, GET, PLAYERS, CLEAR] = [0, 1, 2, 3];
+const [HEAR, OPPONENT] = [0, 1];
+const [FILES] = [1];
 const [OPEN, DECIDE, PLAIN, ORDER, WITHDRAW, LOSE, SHOWN] = [3, 4, 5, 6, 7, 8, 9];
 const [WAITING, ORDERED, LISTED, OWN_LINE, UNGUARDED, REFUSAL, STATE] = [10, 11, 12, 13, 14, 15, 16];
 
@@ -60,6 +62,12 @@ const short = (input) => {
   const text = checked(input);
   if (text.length > LIMIT) throw new FibsError('TooLong', `a line, a command or a name has at most ${LIMIT} bytes`);
   return text;
+};
+
+/** The same as a text. */
+const asText = (input) => {
+  const text = short(input);
+  return typeof text === 'string' ? text : String.fromCharCode(...text);
 };
 
 const ascii = new TextDecoder();
@@ -105,8 +113,7 @@ const read = (line) => instance.ask('read', [], short(line));
 const plays = (line) => instance.ask('plays', [], short(line));
 
 /** The texts of two inputs, as the module takes them. */
-const both = (line, other) => [line, other].map(short).map((text) => (
-  typeof text === 'string' ? text : String.fromCharCode(...text))).join('\n');
+const both = (line, other) => `${asText(line)}\n${asText(other)}`;
 
 /** Why a board does not allow a decision; null if it does. */
 const refusal = (line, command) => instance.ask('refusal', [], both(line, command));
@@ -123,6 +130,19 @@ const turned = (line) => instance.ask('turned', [], short(line));
 
 /** Whether two boards differ in what the game is. */
 const differs = (line, other) => instance.ask('differs', [], both(line, other));
+
+/** What may be played on a board after these steps, and what they have led to. */
+const turn = (line, steps) => instance.ask('turn', [], both(line, Array.from(steps, ({ from, to, die: by }) => (
+  `${from}/${to}/${by ?? ''}`)).join(' ')));
+
+/** The steps of a command, in the player's own numbers. */
+const inOwn = (line, command) => instance.ask('in_own', [], both(line, command));
+
+/** A board in words, a fact a row. */
+const words = (line) => instance.ask('words', [], short(line));
+
+/** A row of the list of saved matches; null if the text is no such row. */
+const savedMatch = (text) => instance.ask('saved_match', [], short(text));
 
 /** Of what is no longer named: an instance with no object that is named goes, and its memory with it. */
 const forgotten = new FinalizationRegistry(({ place, id }) => place.deref()?.free(id));
@@ -246,6 +266,26 @@ class Directory {
   close() { this.#kept.close(); }
 }
 
+/** What lines say has happened. */
+class Events {
+  #kept = new Kept('new_events', []);
+
+  hear(line) { return this.#kept.call(HEAR, short(line)); }
+  get opponent() { return this.#kept.call(OPPONENT); }
+  close() { this.#kept.close(); }
+}
+
+/** Match files of the lines of a session. */
+class MatchFiles {
+  #kept;
+
+  constructor(name) { this.#kept = new Kept('new_match_files', [], short(name)); }
+
+  hear(line) { this.#kept.call(HEAR, short(line)); }
+  get files() { return this.#kept.call(FILES); }
+  close() { this.#kept.close(); }
+}
+
 /** A client: it is given what comes, and says what is to be sent. */
 class Client {
   #kept;
@@ -253,8 +293,7 @@ class Client {
   #isOpen = false;
 
   constructor(name, password) {
-    const [first, second] = [name, password].map(short).map((text) => (
-      typeof text === 'string' ? text : String.fromCharCode(...text)));
+    const [first, second] = [name, password].map(asText);
     this.#kept = new Kept('new_client', [first.length], first + second);
     this.#pieces = new Pieces(this.#kept);
   }
@@ -301,4 +340,7 @@ class Client {
   close() { this.#kept.close(); }
 }
 
-export { Client, Directory, FibsError, Lines, after, differs, plays, read, refusal, turned };
+export {
+  Client, Directory, Events, FibsError, Lines, MatchFiles, after, differs, inOwn, plays, read, refusal, savedMatch,
+  turn, turned, words,
+};

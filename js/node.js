@@ -2,4 +2,7 @@
 
 import library from './dist/index.cjs';
 
-export const { Client, Directory, FibsError, Lines, after, differs, plays, read, refusal, turned } = library;
+export const {
+  Client, Directory, Events, FibsError, Lines, MatchFiles, after, differs, inOwn, plays, read, refusal, savedMatch,
+  turn, turned, words,
+} = library;

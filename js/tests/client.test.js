@@ -2,7 +2,10 @@ import assert from 'node:assert/strict';
 import test from 'node:test';
 import v8 from 'node:v8';
 import vm from 'node:vm';
-import { Client, Directory, FibsError, Lines, after, differs, plays, read, refusal, turned } from '../index.js';
+import {
+  Client, Directory, Events, FibsError, Lines, MatchFiles, after, differs, inOwn, plays, read, refusal, savedMatch,
+  turn, turned, words,
+} from '../index.js';
 
 const board = 'board:You:bob:1:0:0:0:-2:0:0:0:0:5:0:3:0:0:0:-5:5:0:0:0:-3:0:-5:0:0:0:0:2:0:1:6:2:0:0:1:1:1:0:1:-1:0:25'
   + ':0:0:0:0:2:0:0:0';
@@ -24,13 +27,12 @@ test('a board is read by name', () => {
   assert.deepEqual(found, {
     kind: 'board', line: board, player: 'You', opponent: 'bob', length: 1, score: [0, 0], colour: 1, direction: -1,
     turn: 'player', dice: [6, 2], opponentDice: null, cube: 1, mayDouble: true, opponentMayDouble: true,
-    wasDoubled: false, matchOver: false, phase: 'Move', noPosition: null,
+    wasDoubled: false, cubeOwner: 'middle', crawford: false, matchOver: false, isOthers: false, phase: 'Move',
+    noPosition: null,
   });
   assert.deepEqual([pips, off], [[167, 167], [0, 0]]);
   assert.deepEqual(checkers.map((side) => [side[24], side[13], side[8], side[6]]), [[2, 5, 3, 5], [2, 5, 3, 5]]);
   assert.deepEqual(checkers.map((side) => side.reduce((sum, count) => sum + count)), [15, 15]);
-  const watched = read(board.replace('You', 'ann'));
-  assert.deepEqual([watched.phase, watched.noPosition, watched.checkers], [null, 'NotYou', null]);
 });
 
 test('a line is read, whatever its bytes', () => {
@@ -83,6 +85,31 @@ test('a directory has who was listed', () => {
   assert.equal(directory.get('bob'), null);
   directory.clear();
   assert.deepEqual(directory.players, []);
+});
+
+test('lines say what has happened', () => {
+  const events = new Events();
+  const rows = [
+    ['1 ann 1041253132 localhost', [{ event: 'loggedIn', name: 'ann' }]],
+    ['** Player eve has joined you for a 3 point match.', [{ event: 'joined', name: 'eve', length: 3 }]],
+    ['** Player eve has joined you for a 3 point match.', []],
+    [noDice.replace(':bob:1:', ':eve:3:'), []],
+    ['You roll 6 and 2.', [{ event: 'rolled', who: 'player', dice: [6, 2] }]],
+    ['You roll 6 and 2.', []],
+    ['You want to resign. eve will win 2 points.',
+      [{ event: 'offeredToResign', who: 'player', points: 2, worth: 'gammon' }]],
+    ['eve rejects. The game continues.', [{ event: 'declined', who: 'opponent' }]],
+    ["** You can't roll now.", [{ event: 'refused', text: "** You can't roll now." }]],
+    ['eve wins the game and gets 3 points. Sorry.',
+      [{ event: 'gameOver', who: 'opponent', points: 3, worth: 'backgammon' }]],
+    ['eve wins the 3 point match 3-0 .', [{ event: 'matchOver', who: 'opponent', length: 3, score: [0, 3] }]],
+    ['bob wants to play an unlimited match with you.', [{ event: 'invited', name: 'bob', length: null }]],
+    ['hello', []],
+  ];
+  for (const [line, wanted] of rows) assert.deepEqual(events.hear(line), wanted, line);
+  assert.equal(events.opponent, 'eve');
+  events.close();
+  assert.throws(() => events.hear('hello'), { name: 'Closed' });
 });
 
 test('a client plays', () => {
@@ -184,10 +211,13 @@ const WRONG = [undefined, null, 5, 5n, true, {}, [], [104, 10], Symbol('a'), () 
 
 test('what is no string and no buffer is a TypeError, wherever it is given', () => {
   const [lines, directory, client] = [new Lines(), new Directory(), new Client('ann', 'secret')];
+  const [events, files] = [new Events(), new MatchFiles('ann')];
   client.open();
-  const calls = { read, plays, feed: (it) => lines.feed(it), note: (it) => directory.note(it),
+  const calls = { read, plays, words, savedMatch, turn: (it) => turn(it, []), inOwn: (it) => inOwn(board, it),
+    files: (it) => files.hear(it), named: (it) => new MatchFiles(it), feed: (it) => lines.feed(it),
+    note: (it) => directory.note(it),
     get: (it) => directory.get(it), hear: (it) => client.feed(it), decide: (it) => client.decide(it),
-    plain: (it) => client.plain(it) };
+    plain: (it) => client.plain(it), event: (it) => events.hear(it) };
   for (const [name, call] of Object.entries(calls)) {
     for (const wrong of WRONG) assert.throws(() => call(wrong), TypeError, `${name}: ${String(wrong)}`);
   }

@@ -1,6 +1,9 @@
 //! What a line says, in JSON. A byte is the character of its number.
 
-use fibs::{Board, Message, OwnInfo, Player, Position, Reading, WhoInfo, field};
+use fibs::{
+    Board, CubeOwner, Event, Length, Message, Name, Offer, OwnInfo, Play, Player, Position, Reading, SavedMatch, Side,
+    Stake, Step, Turn, WatchedBoard, WhoInfo, field,
+};
 use std::fmt::Write;
 
 /// A text in JSON that is being written.
@@ -75,7 +78,8 @@ impl Json {
         self.close(']');
     }
 
-    fn texts(&mut self, fields: &[(&str, &[u8])]) {
+    /// Fields that are texts.
+    pub fn texts(&mut self, fields: &[(&str, &[u8])]) {
         for (name, text) in fields {
             self.key(name).text(text);
         }
@@ -104,6 +108,93 @@ impl Json {
         self.key("text").text(bytes);
         self.key("cut").raw(&cut.to_string());
         self.key("reading").reading(bytes, reading);
+    }
+
+    /// What has happened.
+    pub fn event(&mut self, event: &Event<'_>) {
+        self.open('{');
+        match event {
+            Event::LoggedIn { name } => self.named("loggedIn", name),
+            Event::Invited { name, length } => {
+                self.named("invited", name);
+                self.length(*length);
+            }
+            Event::InvitedToResume { name } => self.named("invitedToResume", name),
+            Event::Joined { name, length } => {
+                self.named("joined", name);
+                self.length(*length);
+            }
+            Event::Resumed { name } => self.named("resumed", name),
+            Event::GameBegun { name } => self.named("gameBegun", name),
+            Event::Rolled { who, dice } => {
+                self.of_side("rolled", *who);
+                self.key("dice").list(dice, |json, die| json.raw(&die.to_string()));
+            }
+            Event::Played { who, play } => {
+                self.of_side("played", *who);
+                self.steps(play);
+            }
+            Event::CannotMove { who } => self.of_side("cannotMove", *who),
+            Event::Doubled { who } => self.of_side("doubled", *who),
+            Event::Accepted { who, offer } => {
+                self.of_side("accepted", *who);
+                self.texts(&[("offer", if *offer == Offer::Double { b"double" } else { b"resignation" })]);
+            }
+            Event::Rejected { who } => self.of_side("rejected", *who),
+            Event::OfferedToResign { who, points, worth } => self.points("offeredToResign", *who, *points, *worth),
+            Event::Declined { who } => self.of_side("declined", *who),
+            Event::GameOver { winner, points, worth } => self.points("gameOver", *winner, *points, *worth),
+            Event::NextGame => self.texts(&[("event", b"nextGame")]),
+            Event::MatchOver { winner, length, score } => {
+                self.of_side("matchOver", *winner);
+                self.numbers(&[("length", *length)]);
+                self.key("score").list(score, |json, points| json.raw(&points.to_string()));
+            }
+            Event::Left { who } => self.of_side("left", *who),
+            Event::NotPlaying => self.texts(&[("event", b"notPlaying")]),
+            Event::RatingChanged { who, rating, experience } => {
+                self.of_side("ratingChanged", *who);
+                self.rating(*rating);
+                self.numbers(&[("experience", *experience)]);
+            }
+            Event::NothingSaved { name } => self.named("nothingSaved", name),
+            Event::Refused { text } => self.texts(&[("event", b"refused"), ("text", text)]),
+            _ => self.texts(&[("event", b"other")]),
+        }
+        self.close('}');
+    }
+
+    fn named(&mut self, event: &str, name: &Name<'_>) {
+        self.texts(&[("event", event.as_bytes()), ("name", name.bytes())]);
+    }
+
+    fn of_side(&mut self, event: &str, who: Side) {
+        let who: &[u8] = if who == Side::Own { b"player" } else { b"opponent" };
+        self.texts(&[("event", event.as_bytes()), ("who", who)]);
+    }
+
+    fn length(&mut self, length: Length) {
+        self.key("length").raw(&match length {
+            Length::Points(points) => points.to_string(),
+            Length::Unlimited => "null".into(),
+        });
+    }
+
+    fn points(&mut self, event: &str, who: Side, points: u32, worth: Option<Stake>) {
+        self.of_side(event, who);
+        self.numbers(&[("points", points)]);
+        self.key("worth").raw(match worth {
+            None => "null",
+            Some(Stake::Normal) => "\"single\"",
+            Some(Stake::Gammon) => "\"gammon\"",
+            Some(Stake::Backgammon) => "\"backgammon\"",
+        });
+    }
+
+    fn steps(&mut self, play: &Play) {
+        self.key("steps").list(play.steps(), |json, step| {
+            json.raw(&format!("[{},{}]", step.source(), step.target()));
+        });
     }
 
     /// What a line says.
@@ -149,8 +240,16 @@ impl Json {
             ("mayDouble", get(field::MAY_DOUBLE) == 1),
             ("opponentMayDouble", get(field::OTHER_MAY_DOUBLE) == 1),
             ("wasDoubled", get(field::WAS_DOUBLED) == 1),
+            ("crawford", board.is_crawford()),
             ("matchOver", board.is_match_over()),
+            ("isOthers", board.is_others()),
         ]);
+        self.key("cubeOwner").raw(match board.cube_owner() {
+            CubeOwner::Player => "\"player\"",
+            CubeOwner::Opponent => "\"opponent\"",
+            CubeOwner::Middle => "\"middle\"",
+            CubeOwner::Nobody => "\"nobody\"",
+        });
         self.key("off").list([board.off(), board.opponent_off()], |json, count| json.raw(&count.to_string()));
         self.position(board);
     }
@@ -162,32 +261,74 @@ impl Json {
         }
     }
 
-    /// The phase and the checkers, each side's in its own numbers: the bar is 25, off is 0.
+    /// The phase and the checkers, each side's in its own numbers: the bar is 25, off is 0. Of a board that is watched
+    /// they are those that its player sees.
     fn position(&mut self, board: &Board) {
-        match Position::of(board) {
-            Err(why) => {
-                self.key("phase").raw("null");
-                self.key("noPosition").raw(&format!("\"{}\"", why.name()));
-                self.key("checkers").raw("null");
-                self.key("pips").raw("null");
+        let own = Position::of(board);
+        match &own {
+            Err(why) => self.key("noPosition").raw(&format!("\"{}\"", why.name())),
+            Ok(_) => self.key("noPosition").raw("null"),
+        }
+        match own.ok().or_else(|| WatchedBoard::of(board).map(|watched| *watched.position())) {
+            None => {
+                for name in ["phase", "checkers", "pips"] {
+                    self.key(name).raw("null");
+                }
             }
-            Ok(position) => {
+            Some(position) => {
                 self.key("phase").raw(&format!("\"{}\"", position.phase()));
-                self.key("noPosition").raw("null");
-                let own: Vec<u8> = (0..=25).map(|place| position.own_on(place).unwrap_or(0)).collect();
-                let other = |place: u8| match place {
-                    0 => position.other_off(),
-                    25 => position.other_bar(),
-                    place => position.other_on(25 - place).unwrap_or(0),
-                };
-                let other: Vec<u8> = (0..=25).map(other).collect();
-                self.key("checkers").list([own, other], |json, side| {
-                    json.list(side, |json, count| json.raw(&count.to_string()));
-                });
-                let (own, other) = board.pips().unwrap_or_default();
+                self.sides(position.checkers());
+                let (own, other) = position.pips();
                 self.key("pips").list([own, other], |json, pips| json.raw(&pips.to_string()));
             }
         }
+    }
+
+    /// The checkers of each side.
+    fn sides(&mut self, checkers: [[u8; 26]; 2]) {
+        self.key("checkers").list(checkers, |json, side| {
+            json.list(side, |json, count| json.raw(&count.to_string()));
+        });
+    }
+
+    /// Where a step goes, in the player's own numbers.
+    pub fn step(&mut self, step: &Step) {
+        self.open('{');
+        self.ends(step);
+        self.close('}');
+    }
+
+    fn ends(&mut self, step: &Step) {
+        self.numbers(&[("from", step.source()), ("to", step.target())]);
+    }
+
+    /// A turn, with the command that it makes, if it is whole.
+    pub fn turn(&mut self, turn: &Turn, command: Option<&[u8]>) {
+        self.open('{');
+        self.sides(turn.checkers());
+        self.key("dice").list(turn.dice(), |json, die| json.raw(&die.to_string()));
+        self.key("next").list(turn.next_steps(), |json, next| {
+            json.open('{');
+            json.ends(&next.step);
+            json.numbers(&[("die", next.die)]);
+            json.flags(&[("hits", next.hits)]);
+            json.close('}');
+        });
+        match command {
+            Some(command) => self.texts(&[("command", command)]),
+            None => self.key("command").raw("null"),
+        }
+        self.close('}');
+    }
+
+    /// A match that was saved.
+    pub fn saved(&mut self, saved: &SavedMatch<'_>) {
+        self.open('{');
+        self.texts(&[("name", saved.name.bytes())]);
+        self.key("length").raw(&saved.length.map_or("null".into(), |length| length.to_string()));
+        self.key("score").list([saved.score, saved.opponent_score], |json, points| json.raw(&points.to_string()));
+        self.flags(&[("isThere", saved.is_there)]);
+        self.close('}');
     }
 
     fn message(&mut self, message: &Message<'_>) {

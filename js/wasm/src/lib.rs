@@ -7,9 +7,9 @@ mod engines;
 mod json;
 
 use fibs::{
-    AllocError, Board, Client, ConnectionState, Decision, Direction, Directory, DirectoryFault, Disallowed, FieldFault,
-    Lines, Login, Outstanding, OwnLineRefusal, PlainFault, PlainRefusal, Position, PositionFault, Reading, Refusal,
-    decision_text, read_command, read_plain,
+    AllocError, Board, BoardFault, Client, ConnectionState, Decision, Direction, Directory, DirectoryFault, Disallowed,
+    Events, FieldFault, Lines, Login, MatchFiles, Outstanding, OwnLineRefusal, PlainFault, PlainRefusal, Position,
+    PositionFault, Reading, Refusal, SavedMatch, Step, Turn, decision_text, read_command, read_plain,
 };
 use json::Json;
 use std::mem;
@@ -19,6 +19,8 @@ use std::sync::Mutex;
 enum Object {
     Lines(Box<Lines>, Piece),
     Directory(Directory),
+    Events(Events),
+    MatchFiles(Box<MatchFiles>),
     Client(Box<Client>, Directory, Piece),
 }
 
@@ -50,9 +52,12 @@ struct State {
     input: Vec<u8>,
     output: String,
     objects: Vec<Option<Object>>,
+    /// The turn that was asked for last, with its board: the next question is often of the same one.
+    turn: Option<(Board, Turn)>,
 }
 
-static STATE: Mutex<State> = Mutex::new(State { input: Vec::new(), output: String::new(), objects: Vec::new() });
+static STATE: Mutex<State> =
+    Mutex::new(State { input: Vec::new(), output: String::new(), objects: Vec::new(), turn: None });
 
 /// Runs `f` on the state. Nothing else has it: there is one thread, and no call is within another.
 fn with<T>(f: impl FnOnce(&mut State) -> T) -> T {
@@ -134,6 +139,72 @@ fn decided(input: &[u8]) -> Result<(Board, Decision), String> {
     Ok((board, decision))
 }
 
+/// The turn on the board in the input, after the steps that follow it, each as `FROM/TO/DIE`.
+#[unsafe(no_mangle)]
+pub extern "C" fn turn() {
+    with(|state| state.output = turn_of(&state.input, &mut state.turn).unwrap_or_else(|why| why));
+}
+
+fn turn_of(input: &[u8], kept: &mut Option<(Board, Turn)>) -> Result<String, String> {
+    let (line, steps) = parts(input);
+    let board = board_of(line)?;
+    if kept.as_ref().is_none_or(|(of, _)| *of != board) {
+        *kept = Some((board, Turn::of(&board).map_err(fault)?));
+    }
+    let Some((_, turn)) = kept else { return Err(fault(Disallowed::IllegalPlay)) };
+    while turn.undo().is_some() {}
+    for text in steps.split(|byte| *byte == b' ').filter(|text| !text.is_empty()) {
+        let (step, die) = step_of(text).ok_or_else(|| fault(Disallowed::IllegalPlay))?;
+        turn.take(step, die).map_err(fault)?;
+    }
+    let command = turn.play().map(|play| decision_text(&Decision::Move(play), board.direction()));
+    Ok(Json::of(|json| json.turn(turn, command.as_ref().map(|text| text.as_bytes()))))
+}
+
+/// A step and its die; no die if it is any.
+fn step_of(text: &[u8]) -> Option<(Step, Option<u8>)> {
+    let numbers: Vec<&str> = str::from_utf8(text).ok()?.split('/').collect();
+    let [from, to, die] = numbers[..] else { return None };
+    let step = Step::new(from.parse().ok()?, to.parse().ok()?)?;
+    Some((step, if die.is_empty() { None } else { Some(die.parse().ok()?) }))
+}
+
+/// The steps of the command that follows the board in the input, in the player's own numbers.
+#[unsafe(no_mangle)]
+pub extern "C" fn in_own() {
+    answer(|input| in_own_of(input).unwrap_or_else(|why| why));
+}
+
+fn in_own_of(input: &[u8]) -> Result<String, String> {
+    let (_, decision) = decided(input)?;
+    Ok(Json::of(|json| match decision {
+        Decision::Move(play) => json.list(play.steps(), |json, step| json.step(step)),
+        _ => json.raw("[]"),
+    }))
+}
+
+/// The board in the input in words, a fact a row.
+#[unsafe(no_mangle)]
+pub extern "C" fn words() {
+    answer(|line| words_of(line).unwrap_or_else(|why| why));
+}
+
+fn words_of(line: &[u8]) -> Result<String, String> {
+    let rows = board_of(line)?.words().map_err(fault)?;
+    Ok(Json::of(|json| json.list(rows, |json, row| json.text(row.as_bytes()))))
+}
+
+/// The saved match that the text in the input is a row of, or nothing.
+#[unsafe(no_mangle)]
+pub extern "C" fn saved_match() {
+    answer(|text| {
+        Json::of(|json| match SavedMatch::read(text) {
+            Some(saved) => json.saved(&saved),
+            None => json.raw("null"),
+        })
+    });
+}
+
 /// Why the board in the input does not allow the decision that follows it, or nothing.
 #[unsafe(no_mangle)]
 pub extern "C" fn refusal() {
@@ -197,6 +268,21 @@ pub extern "C" fn new_directory() -> usize {
     with(|state| keep(state, Object::Directory(Directory::new())))
 }
 
+/// The events of a stream of lines.
+#[unsafe(no_mangle)]
+pub extern "C" fn new_events() -> usize {
+    with(|state| keep(state, Object::Events(Events::new())))
+}
+
+/// The match files of a stream of lines; the input is the user's name.
+#[unsafe(no_mangle)]
+pub extern "C" fn new_match_files() -> usize {
+    with(|state| {
+        let files = MatchFiles::new(&String::from_utf8_lossy(&state.input));
+        keep(state, Object::MatchFiles(Box::new(files)))
+    })
+}
+
 /// A client of the name and the password in the input, the name in its first bytes; 0 if they are not valid.
 #[unsafe(no_mangle)]
 pub extern "C" fn new_client(name_len: usize) -> usize {
@@ -232,6 +318,8 @@ pub extern "C" fn call(id: usize, what: u32) {
         state.output = match state.objects.get_mut(id.wrapping_sub(1)) {
             Some(Some(Object::Lines(lines, piece))) => of_lines(lines, piece, what, &mut state.input),
             Some(Some(Object::Directory(directory))) => of_directory(directory, what, &state.input),
+            Some(Some(Object::Events(events))) => of_events(events, what, &state.input),
+            Some(Some(Object::MatchFiles(files))) => of_match_files(files, what, &state.input),
             Some(Some(Object::Client(client, directory, piece))) => {
                 of_client(client, directory, piece, what, &mut state.input)
             }
@@ -282,6 +370,29 @@ fn next_lines(lines: &mut Lines, piece: &mut Piece) -> String {
     let left = rest.len();
     piece.leave(left);
     found
+}
+
+fn of_events(events: &mut Events, what: u32, input: &[u8]) -> String {
+    match what {
+        0 => match events.hear(&fibs::read(input)) {
+            Ok(happened) => Json::of(|json| json.list(happened, |json, event| json.event(&event))),
+            Err(why) => fault(why),
+        },
+        _ => Json::of(|json| json.text(events.opponent())),
+    }
+}
+
+fn of_match_files(files: &mut MatchFiles, what: u32, input: &[u8]) -> String {
+    match what {
+        0 => done(files.hear(&fibs::read(input))),
+        _ => Json::of(|json| {
+            json.list(files.files(), |json, file| {
+                json.open('{');
+                json.texts(&[("opponent", file.opponent.as_bytes()), ("text", file.text.as_bytes())]);
+                json.close('}');
+            });
+        }),
+    }
 }
 
 fn of_directory(directory: &mut Directory, what: u32, input: &[u8]) -> String {
@@ -455,7 +566,7 @@ macro_rules! refused {
     };
 }
 
-refused!(DirectoryFault, Disallowed, OwnLineRefusal, PlainFault, PlainRefusal, PositionFault, Refusal);
+refused!(BoardFault, DirectoryFault, Disallowed, OwnLineRefusal, PlainFault, PlainRefusal, PositionFault, Refusal);
 
 impl Refused for FieldFault {
     fn named(&self) -> &'static str {
