@@ -32,11 +32,15 @@ TARGET =
 # the heap of the toolchain's library, over malloc, realloc and free
 KIT_ARCHIVE = $(dir $(shell rt doc))c/liblibc_c.a
 
-.PHONY: all quickly built lib test edits try quick definitions fmt dist install install-program install-surface \
-	install-lib install-program-files install-lib-files uninstall dist-files bench bench-more clean help $(CRATES)
+# what fibs-page serves, of js/
+PAGE := $(addprefix page/,index.html page.css $(notdir $(wildcard js/page/*.js))) index.js dist/module.js
+
+.PHONY: all quickly built lib page test edits try quick definitions fmt dist install install-program install-surface \
+	install-page install-lib install-program-files install-lib-files uninstall dist-files bench bench-more clean help \
+	$(CRATES)
 
 # what stands beside the program
-BESIDE := bin/fibs-play bin/fibs-mat
+BESIDE := bin/fibs-play bin/fibs-mat bin/fibs-page
 
 all: ## proves and builds the program: bin/fibs, with bin/fibs-play beside it; without the command rt as `make quickly`
 ifeq ($(KIT),)
@@ -71,6 +75,9 @@ else
 	@$(MAKE) --no-print-directory $(OF_CARGO)
 	@$(MAKE) --no-print-directory lib/fibs.pc python/fibs/libfibs.so
 endif
+
+page: bin/fibs-page ## builds the page that fibs-page serves, by cargo
+	@js/build
 
 test: ## passes all tests: the proofs, the edits that must fail, the tests of what was built; without rt what needs none
 ifeq ($(KIT),)
@@ -143,8 +150,9 @@ python/fibs/libfibs.so: lib/libfibs.so
 lib/fibs.pc: lib/fibs.pc.in Makefile
 	sed -e 's|@PREFIX@|$(PREFIX)|; s|@VERSION@|$(VERSION)|' $< > $@
 
-install: install-program ## copies what was built to $(PREFIX): the program, proved or not; the library for C, if there is one
+install: install-program ## copies what was built to $(PREFIX): the program, proved or not, the library for C, the page
 	@[ ! -f lib/libfibs.so ] || $(MAKE) --no-print-directory -s install-lib-files
+	@[ ! -f js/dist/module.js ] || $(MAKE) --no-print-directory -s install-page
 
 install-program: built install-program-files ## the program alone, with fibs-play, its page and the completions
 	@echo "$(DESTDIR)$(PREFIX)/bin: $$(bin/fibs --version)"
@@ -176,8 +184,14 @@ install-surface:
 	@install -m 644 completions/fibs.fish $(DESTDIR)$(SHARE)/fish/vendor_completions.d/fibs.fish
 	@ln -sf fibs.fish $(DESTDIR)$(SHARE)/fish/vendor_completions.d/fibs-play.fish
 
+# the page, and what serves it
+install-page:
+	@install -d $(DESTDIR)$(PREFIX)/bin $(DESTDIR)$(SHARE)/fibs/page/page $(DESTDIR)$(SHARE)/fibs/page/dist
+	@install -m 755 scripts/fibs-page $(DESTDIR)$(PREFIX)/bin
+	@for file in $(PAGE); do install -m 644 js/$$file $(DESTDIR)$(SHARE)/fibs/page/$$file || exit 1; done
+
 # all that the rules above put there, and the folders that are of this alone
-INSTALLED = bin/fibs bin/fibs-play bin/fibs-mat share/man/man1/fibs.1 share/man/man1/fibs-play.1 \
+INSTALLED = bin/fibs bin/fibs-play bin/fibs-mat bin/fibs-page share/man/man1/fibs.1 share/man/man1/fibs-play.1 \
 	share/man/man1/fibs-mat.1 share/fibs/typed share/fibs/keys.pl share/fibs/inputrc share/fibs/config share/bash-completion/completions/fibs \
 	share/bash-completion/completions/fibs-play share/zsh/site-functions/_fibs \
 	share/fish/vendor_completions.d/fibs.fish share/fish/vendor_completions.d/fibs-play.fish \
@@ -223,7 +237,7 @@ bench-more: all lib $(PEER) ## measures each part on its own, the libraries for 
 	bench/seat bin/fibs
 
 clean: ## removes what the other targets made
-	rm -rf bin dist out lib/*.a lib/*.so* lib/fibs.pc python/fibs/libfibs.so crates/*/out
+	rm -rf bin dist out lib/*.a lib/*.so* lib/fibs.pc python/fibs/libfibs.so crates/*/out js/dist js/wasm/target
 
 help: ## lists the targets
 	@awk -F ': .*## ' '/^[a-z$$][^:]*:.*## / { name = $$1; sub(/^\$$\(CRATES\)/, "CRATE", name); printf "make %-16s %s\n", name, $$2 }' Makefile

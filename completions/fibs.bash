@@ -36,7 +36,8 @@ _fibs() {
         *,1,-*) COMPREPLY=($(compgen -W '-h --help -V --version' -- "$word")) ;;
         *,1,*) COMPREPLY=($(compgen -W "$subcommands" -- "$word")) ;;
         connect,*) _fibs_connect ;;
-        show,*,-* | plays,*,-* | replay,*,-*) COMPREPLY=($(compgen -W '--json -h --help' -- "$word")) ;;
+        show,*,-*) COMPREPLY=($(compgen -W '--json --events -h --help' -- "$word")) ;;
+        plays,*,-* | replay,*,-*) COMPREPLY=($(compgen -W '--json -h --help' -- "$word")) ;;
         help,2,*) COMPREPLY=($(compgen -W "$subcommands" -- "$word")) ;;
         *,*,-*) COMPREPLY=($(compgen -W '-h --help' -- "$word")) ;;
     esac

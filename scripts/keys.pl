@@ -1,6 +1,6 @@
 #!/usr/bin/perl
 # A filter of rlwrap for fibs-play: Ctrl-C cancels what is typed; pressed twice if nothing is, it leaves. If the window
-# has another width, the program is told before the next line. Tab completes what belongs where it is pressed: a player
+# has another size, the program is told before the next line. Tab completes what belongs where it is pressed: a player
 # whom the server listed after `tell`, a place after `m`, else words.
 use strict;
 use lib ($ENV{RLWRAP_FILTERDIR} or '.');
@@ -19,19 +19,21 @@ sub cancels {
     return ('Ctrl-C again leaves', '', '', @history);
 }
 
-# How wide the window is; 0 if that is not known.
-sub columns {
-    return qx(stty size < /dev/tty 2> /dev/null) =~ /^\d+ (\d+)$/ ? $1 : 0;
+# How high the window is, and how wide; 0 if that is not known.
+sub size {
+    return qx(stty size < /dev/tty 2> /dev/null) =~ /^(\d+) (\d+)$/ ? ($1, $2) : (0, 0);
 }
 
-my $columns = columns();
+my ($rows, $columns) = size();
 
-# The line that was typed, after the new width, if it is one that the program takes.
-sub with_width {
-    my $now = columns();
-    return $_[0] if $now == $columns;
-    $columns = $now;
-    return $now < 20 || $now > 999 ? $_[0] : "columns $now\n$_[0]";
+# The line that was typed, after the new size, if it is one that the program takes.
+sub with_size {
+    my ($line) = @_;
+    my ($high, $wide) = size();
+    $line = "rows $high\n$line" if $high != $rows && $high >= 1 && $high <= 999;
+    $line = "columns $wide\n$line" if $wide != $columns && $wide >= 20 && $wide <= 999;
+    ($rows, $columns) = ($high, $wide);
+    return $line;
 }
 
 # The log of this conversation, and what was read of a line that has not ended.
@@ -53,7 +55,7 @@ sub hear_log {
 }
 
 # The first words after which a player is named, and nothing else; and those after which all that follows is places.
-my %names_player = map { $_ => 1 } qw(tell t message invite join watch whois gag ungag);
+my %names_player = map { $_ => 1 } qw(tell t message invite join watch whois gag ungag matches);
 my %has_places = map { $_ => 1 } qw(move m try plays);
 
 # The places that may end what was typed: of `24/1`, the second one.
@@ -83,7 +85,7 @@ sub completes {
 
 my $filter = RlwrapFilter->new;
 $filter->help_text("Ctrl-C cancels the line, for fibs-play.\n");
-$filter->input_handler(\&with_width);
+$filter->input_handler(\&with_size);
 $filter->hotkey_handler(\&cancels);
 $filter->completion_handler(\&completes);
 # a line was typed
