@@ -345,7 +345,8 @@ def passwords_and_names_that_are_none(server):
 
 
 def the_longest_password(server):
-    """As it is typed, and as the first line of a file, with whatever line end, and of a pipe with a name."""
+    """As it is typed, and as the first line of a file, with whatever line end, and of a pipe with a name. A longer one
+    is not cut."""
     longest = b'a' * 64
     with tempfile.TemporaryDirectory() as room:
         path, pipe = os.path.join(room, 'password'), os.path.join(room, 'pipe')
@@ -357,6 +358,10 @@ def the_longest_password(server):
                 same('the run', run([*words, '127.0.0.1', str(server.port), 'ann'], b''), (0, '', ''))
                 server.accept()
                 same('received', [server.line(), server.line()], ['login fibs_client 1008 ann ' + 'a' * 64, None])
+        for length in 65, 70, 5000:
+            pathlib.Path(path).write_bytes(b'a' * length + b'\n')
+            ended = run(['--password-file', path, '127.0.0.1', str(server.port), 'ann'], b'')
+            same('the run with %d bytes' % length, ended, (3, '', 'fault 3 TooLong\n'))
         same('the run', run(['127.0.0.1', str(server.port), 'ann'], longest + b'\r\n'), (0, '', ''))
         server.accept()
         same('received', server.line(), 'login fibs_client 1008 ann ' + 'a' * 64)

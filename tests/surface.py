@@ -22,12 +22,14 @@ ROOT = pathlib.Path(__file__).resolve().parent.parent
 
 SUBCOMMANDS = ['connect', 'help', 'loop', 'plays', 'replay', 'show']
 
-# The options of the program, of connect, and of show, plays and replay; loop has the help alone.
+# The options of the program, of connect, of show, and of plays and replay; loop has the help alone.
 OPTIONS = ['--help', '--version', '-V', '-h']
 
 CONNECT_OPTIONS = ['--help', '--json', '--log', '--password-file', '-h']
 
-SHOW_OPTIONS = ['--help', '--json', '-h']
+SHOW_OPTIONS = ['--events', '--help', '--json', '-h']
+
+JSON_OPTIONS = ['--help', '--json', '-h']
 
 ALL_OPTIONS = sorted(set(OPTIONS + CONNECT_OPTIONS + SHOW_OPTIONS))
 
@@ -98,8 +100,8 @@ def the_page_has_the_subcommands(_program):
 
 
 def help_has_the_options(_program):
-    parts = [('fibs', OPTIONS), ('connect', CONNECT_OPTIONS), ('show', SHOW_OPTIONS), ('plays', SHOW_OPTIONS),
-             ('replay', SHOW_OPTIONS), ('loop', ['--help', '-h'])]
+    parts = [('fibs', OPTIONS), ('connect', CONNECT_OPTIONS), ('show', SHOW_OPTIONS), ('plays', JSON_OPTIONS),
+             ('replay', JSON_OPTIONS), ('loop', ['--help', '-h'])]
     for name, wanted in parts:
         listed = part(text_of('tests/help/%s.txt' % name) + '\n\n\n', '\nOptions:\n', '\n\n\n')
         found = [word for line in listed.splitlines() if re.match(r' {2,6}-', line)
@@ -118,7 +120,8 @@ def bash_completes(_program):
     asked = {
         ('fibs', ''): SUBCOMMANDS, ('fibs', 're'): ['replay'], ('fibs', '-'): OPTIONS,
         ('fibs', 'help', ''): SUBCOMMANDS,
-        **{('fibs', name, '-'): SHOW_OPTIONS for name in ('show', 'plays', 'replay')},
+        ('fibs', 'show', '-'): SHOW_OPTIONS,
+        **{('fibs', name, '-'): JSON_OPTIONS for name in ('plays', 'replay')},
         ('fibs', 'loop', '-'): ['--help', '-h'], ('fibs', 'connect', '-'): CONNECT_OPTIONS,
         ('fibs', 'connect', 'fibs'): ['fibs.com'],
         ('fibs', 'connect', 'localhost', ''): ['4321'],
@@ -349,7 +352,7 @@ def the_help_of_a_terminal_means_the_same(_program):
     rows = []
     for text in re.findall(r'b"((?:[^"\\]|\\.|\\\n)*:(?:[^"\\]|\\.|\\\n)*)"', code):
         text = text.replace('\\n', '\n').replace('\\\n', '')
-        heads_of = re.findall(r'(?:^|\. )([a-z][^:.;\n]*): ', text, re.M)
+        heads_of = re.findall(r'(?:^|[.;] )([a-z][^:.;\n]*): ', text, re.M)
         rows.append(([re.sub(r' \(or .*\)', '', one) for head in heads_of for one in head.split(', ')], text))
     spans = [span for found, _said in rows for span in found]
     same('lines without help', [line for line in TYPED if not any(span == line or span.startswith(line + ' ')

@@ -190,7 +190,14 @@ class Commands:
             player.tell('  opponent          matchlength   score (your points first)')
             for name, match in saved:
                 side = match.names.index(player.name)
-                player.tell('  %-20s %4d %10d - %2d' % (name, match.length, match.score[side], match.score[1 - side]))
+                length = 'unlimited' if match.length == UNLIMITED else match.length
+                player.tell('%2s%-20s %4s %10d - %2d' % (
+                    self.stars(name), name, length, match.score[side], match.score[1 - side]))
+
+    def stars(self, name):
+        """A star if a player is logged in, and two if he is ready to play."""
+        return next(('**' if one.is_on('ready') and not one.table else '*'
+                     for one in self.room.present() if one.name == name), '')
 
     # -- watching --------------------------------------------------------------------------------------------------
 

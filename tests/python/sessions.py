@@ -163,6 +163,32 @@ def what_a_lost_connection_hid_is_filled_in(counts):
         'the one who took the cube doubles, and that is hidden')
 
 
+def offers_to_resign_are_no_plays(counts):
+    """One that is declined, or that nobody answers, changes nothing, though a server may show it as a turn that is
+    given away; one that is accepted ends the game, by a gammon too."""
+    whole = session()
+    own = ['You want to resign. bob will win 2 points. Please wait for bob to accept or reject.',
+           line(OWN1, OTHER1, -1, cube=2), 'bob rejects. The game continues.', line(OWN1, OTHER1, 1, cube=2)]
+    his = ["bob wants to resign. You will win 2 points. Type 'accept' or 'reject'.", line(OWN2, OTHER1, 1, cube=2),
+           'You reject. The game continues.', line(OWN2, OTHER1, -1, cube=2)]
+    at, after_it = whole.index('You roll 6 and 6.'), whole.index('bob rolls 3 and 1.')
+    lines = whole[:at] + own + whole[at:after_it] + his + whole[after_it:]
+    counts.same(match_of(counts, lines), (MATCH, '', 0), 'offers that are declined')
+    counts.same(match_of(counts, [one for one in lines if one not in (own[1], his[1])]), (MATCH, '', 0),
+                'the same without boards')
+    unanswered = whole[:at] + own[:2] + whole[at:after_it] + his[:2] + whole[after_it:]
+    counts.same(match_of(counts, unanswered), (MATCH, '', 0), 'offers that nobody answers')
+    ended = [own[0].replace('2', '4'), line(OWN1, OTHER1, -1, cube=2), line(OWN1, OTHER1, 0, cube=2, scores=(0, 4)),
+             'bob wins the game and gets 4 points. Sorry.', 'bob wins the 3 point match 4-0 .']
+    told, said, status = match_of(counts, whole[:at] + ended)
+    counts.same((told.splitlines()[4:], said, status), (
+        ['  1) 63: 24/21 21/15             52: 24/22 13/8', '  2)  Doubles => 2                Takes',
+         '                                  Wins 4 points and the match', ''], '', 0), 'a gammon that is given up')
+    if matchfiles.gnubg():
+        found = matchfiles.imported(told)
+        counts.same(found and [game[:3] for game in found[2]], [((0, 0), 'bob', 4)], 'as GNU Backgammon has it')
+
+
 def what_can_not_be_told_is_said(counts):
     whole = session()
     told, said, status = match_of(counts, whole[:1] + whole[18:])
@@ -208,4 +234,5 @@ def each_match_of_a_session_can_be_had(counts):
 
 
 TESTS = [played_turns_are_printed, a_session_becomes_a_match_file, gnu_backgammon_imports_it,
-         what_a_lost_connection_hid_is_filled_in, what_can_not_be_told_is_said, each_match_of_a_session_can_be_had]
+         what_a_lost_connection_hid_is_filled_in, offers_to_resign_are_no_plays, what_can_not_be_told_is_said,
+         each_match_of_a_session_can_be_had]

@@ -246,10 +246,15 @@ def a_match_is_saved_and_resumed(server):
         else:
             ann.sees('8 bob bob %s' % ('logs out.' if how == 'bye' else 'drops connection.'))
             ann.answers('invite bob', '** There is no one called bob.')
+            ann.answers('show saved', '  opponent ..', '  bob                     3          0 -  0')
             bob = Client(server.port, 'bob')
         bob.catches_up()
         ann.catches_up()
-        ann.answers('show saved', '  opponent ..', '  bob                     3          0 -  0')
+        for stars in '**', ' *':
+            ann.answers('show saved', '  opponent ..', stars + 'bob                     3          0 -  0')
+            bob.send('toggle ready')
+            bob.catches_up()
+            ann.catches_up()
         ann.answers('invite bob', '** You invited bob to resume a saved match.')
         bob.sees('ann wants to resume a saved match with you.', "Type 'join ann' to accept.")
         bob.answers('join ann', 'You are now playing with ann. Your running match was loaded.', 'turn: ann',

@@ -12,6 +12,8 @@ import subprocess
 import sys
 
 import people
+import above
+import again
 import anything
 import babble
 import company
@@ -19,6 +21,7 @@ import costs
 import escapes
 import game
 import hints
+import leaving
 import logins
 import logs
 import numbers_of_places
@@ -26,6 +29,8 @@ import offers
 import partners
 import pictures
 import play
+import quiet
+import rated
 import records
 import refusals
 import resized
@@ -52,8 +57,8 @@ def main():
     beside = (offers.SCENES + resuming.SCENES + refusals.SCENES + hints.SCENES + play.SCENES + logs.SCENES
               + game.SCENES + company.SCENES + partners.SCENES + watching.SCENES + spoken.SCENES + babble.SCENES
               + anything.SCENES + resized.SCENES + whole.SCENES + logins.SCENES + pictures.SCENES + records.SCENES
-              + numbers_of_places.SCENES)
-    alone = escapes.SCENES + costs.SCENES
+               + numbers_of_places.SCENES + rated.SCENES + quiet.SCENES + leaving.SCENES + above.SCENES)
+    alone = escapes.SCENES + costs.SCENES + again.SCENES
     chosen = [[scene for scene in scenes if not words or any(word in scene.__name__ for word in words)]
               for scenes in (beside, alone)]
     failed = 0

@@ -97,8 +97,9 @@ def a_list_of_4096_players_is_listed(server):
     """At most a screen of it, and all if one asks; every row fits, and she plays on."""
     ann = greeted(server)
     names = ['p%04d' % at + '\\|+'[at % 3] * (at % 60) for at in range(4096)]
-    listed(server, [(name, '-', 1500, at, 0, 1) for at, name in enumerate(names)])
-    ann.reads('4096 players: type players')
+    listed(server, ann, [(name, '-', 1500, at, 0, 1) for at, name in enumerate(names)])
+    # it does not fit a row
+    ann.reads('5.')
     rows = rows_after(ann, 'players', 'players all')
     same('a screen', (len(rows), rows[-1]), (19, '.. 4080 more: players all'))
     rows = rows_after(ann, 'players all', '4096 players.')
@@ -135,8 +136,7 @@ def opponents_may_have_any_names(server):
         same('every row fits', [row for row in rows if len(row) > 79], [])
         ann.type('help')
         ann.advised('hint', 'roll', 'double')
-    ann.type('quit')
-    ann.ends(0)
+    ann.quits()
     same('what was sent', server.line(), None)
 
 

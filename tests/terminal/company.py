@@ -3,6 +3,7 @@
 import os
 import pathlib
 import random
+import re
 import tempfile
 import time
 
@@ -23,11 +24,13 @@ def scene(does):
     return does
 
 
-def listed(server, players):
-    """The server lists these players: name, opponent, rating, experience, idle, whether ready."""
+def listed(server, ann, players):
+    """The server lists these players (name, opponent, rating, experience, idle, whether ready), and says that she is in
+    no match: so her login ends, by a row that counts the others."""
     for name, opponent, rating, points, idle, ready in players:
         server.send('5 %s %s - %d 0 %.2f %d %d 1041253132 localhost - -' % (name, opponent, ready, rating, points, idle))
-    server.send('6')
+    server.send('6', "** You're not playing.")
+    ann.reads('%d players, ' % sum(name != 'ann' for name, *_ in players))
 
 
 def rows_after(ann, typed, last, seconds=20):
@@ -47,9 +50,8 @@ def rows_after(ann, typed, last, seconds=20):
 def players_are_listed_by_what_one_looks_for(server):
     """At most a screen, near one's own rating first; in any letters; every row fits."""
     ann = greeted(server)
-    listed(server, [('player%03d' % at, 'someone' if at % 3 == 0 else '-', 1000 + 5 * at, at, 60 * at, at % 2)
-                    for at in range(300)])
-    ann.reads('300 players: type players')
+    listed(server, ann, [('player%03d' % at, 'someone' if at % 3 == 0 else '-', 1000 + 5 * at, at, 60 * at, at % 2)
+                         for at in range(300)])
     rows = rows_after(ann, 'players', 'all')
     same('the first rows', rows[:3], ['Nearest to your 1500.00 first:', HEAD,
                                       'player100              1500.00     100     1 h   not ready'])
@@ -77,8 +79,7 @@ def players_are_listed_by_what_one_looks_for(server):
 def long_names_fit(server):
     """Names of 64 bytes; numbers of as many digits as a player may have."""
     ann = greeted(server)
-    listed(server, [('n' * 64, 'm' * 64, 99.99, 12345678, 864000, 1), ('bob', '-', 999.99, 7, 7200, 1)])
-    ann.reads('2 players: type players')
+    listed(server, ann, [('n' * 64, 'm' * 64, 99.99, 12345678, 864000, 1), ('bob', '-', 999.99, 7, 7200, 1)])
     rows = rows_after(ann, 'players', '2 players.')
     same('rows', rows, [HEAD, 'bob                     999.99       7     2 h   ready',
                         'nnnnnnnnnnnnnnnnnnnn     99.99 12345678    10 d   plays mmmmmmmmmmmmmmmm', '2 players.'])
@@ -122,25 +123,37 @@ def words_of_the_server_are_sent_as_they_are(server):
         same('what was sent', server.line(), word)
     ann.type('show ratings')
     ann.reads('not a word of this client: send show ratings sends it as it is')
-    ann.type('quit')
-    ann.ends(0)
+    ann.quits()
     same('nothing else', server.line(), None)
+
+
+def moves_of(rows):
+    """The moves of a list, whose last row says how many there are, down its columns."""
+    cells = [re.split(' {2,}', row.strip()) for row in rows[:-1]]
+    return [row[column] for column in range(len(cells[0])) for row in cells if column < len(row)]
+
+
+def places_of(move):
+    """The places of a move's steps, as numbers."""
+    return [int(place.strip('*')) for step in move.split(' ') for place in step.split('-')]
 
 
 @scene
 @at_a_table(*ANN_BEGINS)
 def moves_are_listed_from_a_place_and_in_parts(table):
-    """At most twenty at once; `plays more` goes on; a new board begins anew."""
+    """In as many columns as fit, ordered down them; those from a place alone."""
     ann = table.ann
     table.begins()
     ann.advised('hint', 'move')
     same('no place', rows_after(ann, 'plays here', '.'), ['plays, plays 24, plays bar, or plays more.'])
     first = rows_after(ann, 'plays', '.')
-    same('with 3 and 1 there are', first[-1], '16 legal moves.')
+    same('with 3 and 1 there are', (first[-1], len(moves_of(first))), ('16 legal moves.', 16))
+    same('rows', len(first) <= 16 / 3 + 1, True)
+    same('down the columns', moves_of(first), sorted(moves_of(first), key=places_of, reverse=True))
     from_24 = rows_after(ann, 'plays 24', '.')
-    same('from there', all(' 24-' in row for row in from_24[:-1]), True)
-    same('how many', (from_24[-1], sum(' 24-' in row for row in first)),
-         ('%d legal moves from there.' % (len(from_24) - 1), len(from_24) - 1))
+    same('from there', all('24-' in move for move in moves_of(from_24)), True)
+    same('how many', (from_24[-1], sum('24-' in move for move in moves_of(first))),
+         ('%d legal moves from there.' % len(moves_of(from_24)), len(moves_of(from_24))))
     same('none from the bar', rows_after(ann, 'plays bar', '.'), ['0 legal moves from there.'])
 
 
@@ -173,6 +186,7 @@ def a_move_is_looked_at_before_it_is_sent(table):
 
 
 SETTINGS = b'''# what I like
+arrivals
 quiet
 gag dirk
 no bell
@@ -186,20 +200,21 @@ gag not a name
 
 @scene
 def own_settings_are_taken_and_what_is_none_is_said():
-    """Each line alone: a wrong one is named, and the others count."""
+    """Each line alone, in their order: a wrong one is named, and the others count."""
     with tempfile.TemporaryDirectory() as folder:
         path = os.path.join(folder, 'config')
         pathlib.Path(path).write_bytes(SETTINGS)
         server = Listener()
         ann = Person(server.port, FIBS_CONFIG=path, FIBS_QUIET='')
-        ann.reads('fibs: line 7 of %s is no setting: dance with me' % path)
-        ann.reads('fibs: line 9 of %s is no setting: gag not a name' % path)
+        ann.reads('fibs: line 8 of %s is no setting: dance with me' % path)
+        ann.reads('fibs: line 10 of %s is no setting: gag not a name' % path)
         server.accept()
         server.line()
-        server.send(WELCOME, OWN_INFO % 'ann', '13 bob a shout', '12 dirk psst', '12 eve a word', BOARD)
+        server.send(WELCOME, OWN_INFO % 'ann', '13 bob a shout', '7 carl carl logs in.', '12 dirk psst', '12 eve a word',
+                    BOARD)
         ann.reads('eve says: a word')
         ann.reads('You go down, from 24 to 1.')
-        same('what was hidden', [row for row in ann.lines() if 'psst' in row or 'shout' in row], [])
+        same('what was hidden', [row for row in ann.lines() if re.search('psst|shout|carl', row)], [])
         same('bells', b'\x07' in bytes(ann.seen), False)
         ann.close()
         server.close()
@@ -246,17 +261,19 @@ def a_home_that_is_no_folder_has_no_settings():
 
 @scene
 @with_listener
-def moves_are_listed_twenty_at_a_time(server):
+def moves_are_listed_twenty_rows_at_a_time(server):
     """`plays more` goes on where the list ended, to the last move: none twice, none left out; a board begins anew."""
-    ann = greeted(server)
+    ann = greeted(server, columns=50, COLUMNS='50')
     # two and two: more moves than three lists have
     server.send(BOARD.replace(':1:0:0:0:0:1:1:1', ':1:2:2:0:0:1:1:1'))
     ann.reads('Your move, as in: move')
     rows = rows_after(ann, 'plays', 'shows others.')
     first, total = list(rows), int(rows[-1].split(' ')[2])
+    moves = moves_of(rows)
+    same('rows of a list', len(rows), 21)
     while rows[-1].endswith('shows others.'):
-        rows = rows[:-1] + rows_after(ann, 'plays more', '.')
-    moves = [row for row in rows if row.startswith('  move')]
+        rows = rows_after(ann, 'plays more', '.')
+        moves += moves_of(rows)
     same('how many', (total > 60, len(moves), len(set(moves)), rows[-1]), (True, total, total, '%d legal moves.' % total))
     same('nothing follows', rows_after(ann, 'plays more', '.'), ['%d legal moves.' % total])
     server.send(BOARD.replace(':1:0:0:0:0:1:1:1', ':1:2:2:0:0:1:1:1'))

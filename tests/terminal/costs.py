@@ -60,8 +60,7 @@ def no_wakes_after_a_loss(server):
         logs_in(server)
         server.send('12 bob hi again')
         ann.reads('bob says: hi again')
-        ann.type('quit')
-        ann.ends(0)
+        ann.quits()
         server.received.clear()
         ann.close()
 
@@ -112,8 +111,7 @@ def to_the_first_row(server, kind):
     ann.sees('connected to')
     took = 1000 * (time.monotonic() - began)
     ann.sees('Welcome, ann')
-    ann.type('quit')
-    ann.ends(0)
+    ann.quits()
     ann.close()
     return took
 

@@ -68,8 +68,7 @@ def a_million_lines_never_act_on_the_terminal(server, **more):
     sender.join(PATIENCE)
     same('bytes that a terminal obeys', sorted(found - set(map(ord, HARMLESS)) - {13}), [])
     same('lines are shown', seen > MILLION // 4, True)
-    ann.type('quit')
-    ann.ends(0)
+    ann.quits()
     while server.line() is not None:
         pass
     same('what the server got', server.received[3:], [])
@@ -281,8 +280,7 @@ def what_the_environment_says(server):
         last = next(line for line in ann.lines() if line.startswith('Welcome, ann'))
         same('with %r' % more, (BOLD in shown, 'caf' + letter in shown, ', %s, from' % clock in last, ' O You' in shown),
              (bold, True, True, True))
-        ann.type('quit')
-        ann.ends(0)
+        ann.quits()
         ann.close()
 
 
@@ -319,8 +317,7 @@ def the_clock_of_the_place(server):
             said = ann.reads('bob says: hi').split(' ')[0]
             ways = {(hour + datetime.timedelta(minutes=late)).strftime('%H:%M') for late in (-1, 0, 1)}
             same('%s, the time of talk, is one of %s' % (said, ways), said in ways, True)
-            ann.type('quit')
-            ann.ends(0)
+            ann.quits()
             ann.close()
 
 

@@ -26,12 +26,27 @@ SHORT = {'roll': 'r'}
 ANOTHER = [(re.compile(r'127\.0\.0\.1:\d+'), '127.0.0.1:4321'),
            (re.compile(r'Last login: .*, from'), 'Last login: 28 December 2002, 23:00, from'),
            (re.compile(r'^\d\d:\d\d '), '23:00 ')]
+# What is there only if the server does not answer at once.
+SLOW = 'Sent, and not confirmed by the server yet.'
+# How many rows a picture has.
+HEIGHT = 13
 
 
 def same_each_time(row):
     for form, text in ANOTHER:
         row = form.sub(text, row)
     return row
+
+
+def as_at_once(rows):
+    """The rows as they are if the server answers each move at once: whom it hits is said above the board then."""
+    rows = list(rows)
+    while SLOW in rows:
+        at = rows.index(SLOW)
+        begin = at - HEIGHT if rows[at - 1].startswith(' +') else at
+        end = at + 2 if ''.join(rows[at + 1:at + 2]).startswith('You hit ') else at + 1
+        rows[begin:end] = rows[at + 1:end] + rows[begin:at]
+    return rows
 
 
 def written(line):
@@ -84,7 +99,7 @@ class Recorded:
             self.reads(0.7)
         self.ann.type('quit')
         self.rows.append('> quit')
-        return self.rows
+        return as_at_once(self.rows)
 
 
 def recorded(**more):
@@ -121,26 +136,34 @@ def is_on_the_page(block):
 FRONT, END = re.compile(r'\d\d:\d\d '), re.compile(r'(?<=^connected to 127\.0\.0\.1:)\d+|(?<=Last login: ).*')
 
 
+def without_colour(row):
+    """A row of the page as it is drawn without colours: a picture has longer words then."""
+    return row.replace("   eve's turn", "   the opponent's turn") if row.startswith(' |') else row
+
+
 def the_page_is_the_game_with_fibs_play():
     """The same rows below its question, and neither the password nor anything else. If lines are edited the rows come
     in their order, whatever is drawn between them, and what was typed is kept."""
-    rows = rows_of_the_page()
+    rows = [without_colour(row) for row in rows_of_the_page()]
     typed = [row[2:] for row in rows if row.startswith('> ')]
     for kind in KINDS:
         server = Served(*SERVER)
         try:
             ann = begun(server, kind, NO_COLOR='1')
-            at = 0
+            at = typed_at = 0
             for row in rows:
                 if row.startswith('> '):
                     ann.type(row[2:])
-                    row = row[2:]
-                at = shows(ann, END.sub('', FRONT.sub('', row)), at)
+                    row, typed_at = row[2:], at
+                if row.startswith('You hit '):
+                    shows(ann, row, typed_at)
+                else:
+                    at = shows(ann, END.sub('', FRONT.sub('', row)), at)
             ann.ends(0)
             same('echo', ann.echoes(), True)
             same('the password is shown', PASSWORD in ann.screen(), False)
             if kind == 'dumb':
-                same('the screen', [same_each_time(row) for row in ann.lines()],
+                same('the screen', as_at_once(same_each_time(row) for row in ann.lines()),
                      ['password: ', *(row.removeprefix('> ') for row in rows)])
             else:
                 kept = ''.join(path.read_text() for path in ann.home.iterdir() if path.is_file())

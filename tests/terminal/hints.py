@@ -62,8 +62,7 @@ def match_by_hints(*options, seed=1, bot='invites=2,plays=random,resigns=4n', **
     try:
         follower = Follower(server, seed, **more)
         follower.plays_to_the_end()
-        follower.ann.type('quit')
-        follower.ann.ends(0)
+        follower.ann.quits()
         follower.ann.close()
         return follower
     finally:
@@ -94,26 +93,26 @@ def turns(lines):
     return [lines[start + 1:end + 1] for start, end in zip(starts, starts[1:])]
 
 
-def at_most_thirty_rows_a_turn():
-    """On a recorded match: the same dice and plays each time."""
+def at_most_forty_rows_a_turn():
+    """On a recorded match, the same dice and plays each time: two boards, and at most a dozen rows more."""
     follower = match_by_hints(seed=3, bot='invites=1,plays=random')
     played = turns(follower.ann.lines())
     rows = [len(turn) for turn in played]
     same('turns were counted', len(rows) > 15, True)
     worst = max(played, key=len)
-    if max(rows) > 30:
+    if max(rows) > 40:
         middle = sorted(rows)[len(rows) // 2]
         raise Failed('%d rows a turn; the middle is %d; the worst is %r' % (max(rows), middle, worst))
 
 
 def the_game_of_the_docs():
-    """It was recorded: its turns take at most 30 rows too, from the login to the end."""
+    """It was recorded: its turns take at most 40 rows too, from the login to the end."""
     page = rows_of_the_page()
     same('it is whole', (page[0].startswith('connected to '), any(ENDED.fullmatch(line) for line in page)),
          (True, True))
     rows = [len(turn) for turn in turns(page)]
     same('turns were counted', len(rows) > 3, True)
-    same('turns of more than 30 rows', [count for count in rows if count > 30], [])
+    same('turns of more than 40 rows', [count for count in rows if count > 40], [])
     same('lines of more than 79 columns', [line for line in page if len(line) > 79], [])
 
 
@@ -178,12 +177,11 @@ def the_bell():
             ann.hint()
             ann.type('tell eve hi')
             ann.reads('eve says: hello')
-            ann.type('bye')
+            ann.takes_leave('bye', ['sent bye'])
             ann.reads('lost')
             rings = ann.screen().count('\a')
             same('it rings with FIBS_QUIET=%s' % quiet, rings == 0 if quiet else rings >= 3, True)
-            ann.type('quit')
-            ann.ends(0)
+            ann.quits()
             ann.close()
             time.sleep(0.3)
     finally:
@@ -216,6 +214,6 @@ def help_lists_the_words():
         server.close()
 
 
-SCENES = [help_lists_the_words, by_hints_alone, by_hints_over_connections_that_are_cut, at_most_thirty_rows_a_turn,
+SCENES = [help_lists_the_words, by_hints_alone, by_hints_over_connections_that_are_cut, at_most_forty_rows_a_turn,
           the_game_of_the_docs, at_most_79_columns, on_a_small_terminal, letters_in_bold,
           what_can_be_done_is_said_once, the_bell]

@@ -37,8 +37,7 @@ def a_match(server):
         kind, named = read(line)
         if kind in FOLLOWED:
             ann.type(named[0])
-    ann.type('quit')
-    ann.ends(0)
+    ann.quits()
     ann.close()
 
 

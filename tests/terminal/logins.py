@@ -126,8 +126,7 @@ def a_server_that_does_not_greet(server):
     ann.reads('Not logged in')
     server.drop()
     ann.reads('lost')
-    ann.type('quit')
-    ann.ends(0)
+    ann.quits()
     same('all that was received', server.received, [LOGIN])
     ann.close()
 
@@ -145,8 +144,7 @@ def a_password_is_asked_for_again(*options):
                 ann.type(password)
             if given[-1] == PASSWORD:
                 ann.is_shown('Welcome, ann')
-                ann.type('quit')
-                ann.ends(0)
+                ann.quits()
             else:
                 ann.ends(3)
                 same('within a second, and the way', time.monotonic() - began < 2, True)

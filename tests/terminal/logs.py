@@ -58,8 +58,7 @@ def each_line_as_it_came_and_what_was_sent(server):
          [line[3:] for line in held.split(b'\n') if line.startswith(b'>> ')],
          [b'set boardstyle 3', b'board', b'roll', LONG.encode()])
     same('what was not sent', b'dance' in held, False)
-    ann.type('quit')
-    ann.ends(0)
+    ann.quits()
     ann.close()
     done = subprocess.run([PROGRAM, 'show'], input=held, capture_output=True, check=False)
     shown = done.stdout.split(b'\n')
@@ -124,8 +123,7 @@ def a_log_that_is_full(server):
     ann.type('say hi')
     for wanted in 'set boardstyle 3', 'board', 'say hi':
         same('received', server.line(), wanted)
-    ann.type('quit')
-    ann.ends(0)
+    ann.quits()
     same('what is said of it', [line for line in ann.lines() if 'the log' in line],
          ["fibs: the log can't be written: no space left on device"])
     ann.close()
@@ -158,8 +156,7 @@ def a_log_is_for_its_owner_alone(server):
         ann.reads('Welcome, ann')
         holds(path, WELCOME.encode())
         same('who may read it', os.stat(path).st_mode & 0o777, mode)
-        ann.type('quit')
-        ann.ends(0)
+        ann.quits()
         ann.close()
         os.chmod(path, 0o640)
 

@@ -91,6 +91,37 @@ def who_goes_down_by_the_server_sees_no_difference(table):
     table.bob.sees('ann moves 8-5 6-5 .')
 
 
+def hits_are_said(table, bob_hits):
+    """Ann leaves a checker alone, bob hits it, and she hits from the bar: each is said once, in her numbers."""
+    ann = table.ann
+    ann.hint()
+    ann.type('24/21 6/5')
+    ann.reads("bob's turn.")
+    table.bob.send('roll')
+    table.bob.sees('board:..')
+    table.bob.send(bob_hits)
+    ann.reads('bob hits you on 21.')
+    ann.advised('hint', 'roll', 'double')
+    ann.type('roll')
+    ann.hint()
+    ann.type('bar/21* 24/20 13/9(2)')
+    ann.reads('You hit bob on 21.')
+    ann.reads("bob's turn.")
+    same('each once', [row for row in ann.lines() if ' hit' in row], ['bob hits you on 21.', 'You hit bob on 21.'])
+
+
+@near_and_far(SCENES, '--dice', '31,43,44')
+def hits_are_said_to_who_goes_down(table):
+    table.begins()
+    hits_are_said(table, 'move 17-21 12-15')
+
+
+@near_and_far(SCENES, '--dice', '13,43,44')
+def hits_are_said_to_who_goes_up(table):
+    joins(table)
+    hits_are_said(table, 'move 8-4 13-10')
+
+
 @scene
 @with_listener
 def the_settings_file_asks_for_numbers(server):

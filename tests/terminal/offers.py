@@ -35,6 +35,12 @@ def ann_rolls(table, kind, line='roll'):
     table.ann.was_not_refused()
 
 
+def ann_rolls_again(table, kind):
+    """The same, where a line was refused before."""
+    table.ann.types_what(kind, 'roll')
+    table.bob.sees('ann rolls ..')
+
+
 def ann_rolls_now(table):
     table.ann.type('roll')
     table.bob.sees('ann rolls ..')
@@ -80,7 +86,7 @@ def a_double_that_no_board_shows(table):
     bob_is_to_roll(table)
     table.bob.send('double')
     table.ann.types_what('doubles', 'board')
-    table.ann.types_what('answer', 'send accept', 'send reject')
+    table.ann.types_what('answer', 'accept', 'reject')
     table.bob.sees('ann accepts the double. The cube shows 2.')
     table.ann.was_not_refused()
 
@@ -122,7 +128,7 @@ def a_double_that_is_taken_by_text_alone(table):
 @near_and_far(SCENES, *BOB_BEGINS, '--refuse', 'double=1')
 def a_double_that_the_server_refuses_once(table):
     ann_doubles(table)
-    ann_rolls(table, 'go on', 'send roll')
+    ann_rolls(table, 'go on', 'roll')
 
 
 @near_and_far(SCENES, *BOB_BEGINS, '--refuse', 'double=always')
@@ -130,14 +136,14 @@ def a_double_that_the_server_refuses_always(table):
     ann_doubles(table)
     same('what was refused is not named', [line for line in table.ann.advised('go on') if 'double' in line], [])
     table.ann.type('help')
-    ann_rolls(table, 'go on', 'send roll')
+    ann_rolls(table, 'go on', 'roll')
 
 
 @near_and_far(SCENES, *FORBIDDEN)
 def a_double_that_the_match_forbids(table):
     """The board says that she may. Once it was refused, no hint of that game names it."""
     ann_doubles(table, 1)
-    ann_rolls(table, 'go on', 'send roll')
+    ann_rolls(table, 'go on', 'roll')
     table.ann.types_what('hint', 'move')
     table.bob.sees("It's your turn to roll.")
     table.bob.send('roll', 'move 12-17 17-23')
@@ -195,7 +201,7 @@ def a_resignation_before_a_move_is_declined(table):
     move = table.ann.hint()
     ann_resigns(table, 'g')
     table.bob.send('reject')
-    table.ann.types_what('go on', 'send ' + move)
+    table.ann.types_what('go on', move)
     table.bob.sees('ann moves ..')
     table.ann.was_not_refused()
 
@@ -205,9 +211,9 @@ def a_resignation_before_a_roll_is_declined(table):
     ann_is_to_roll(table)
     ann_resigns(table, 'n')
     table.bob.send('reject')
-    table.ann.advised('go on', 'send roll', 'send double')
+    table.ann.advised('go on', 'roll', 'double')
     table.ann.type('help')
-    ann_rolls(table, 'go on', 'send roll')
+    ann_rolls(table, 'go on', 'roll')
 
 
 @near_and_far(SCENES, *BOB_BEGINS)
@@ -216,8 +222,8 @@ def a_resignation_is_declined_and_she_doubles(table):
     ann_is_to_roll(table)
     ann_resigns(table, 'n')
     table.bob.send('reject')
-    table.ann.advised('go on', 'send roll', 'send double')
-    table.ann.type('send double')
+    table.ann.advised('go on', 'roll', 'double')
+    table.ann.type('double')
     table.bob.sees("ann doubles. Type 'accept' or 'reject'.")
     table.bob.send('accept')
     ann_rolls(table, 'hint')
@@ -287,7 +293,7 @@ def a_resignation_before_a_move_is_not_answered(table):
         table.ann.type(line)
         never_advised(table.ann, ('hint', 'go on', 'answer', 'board', 'old'), 0.6)
     table.bob.send('reject')
-    table.ann.types_what('go on', 'send ' + move)
+    table.ann.types_what('go on', move)
     table.bob.sees('ann moves ..')
 
 
@@ -312,7 +318,7 @@ def bob_resigns(table):
 @near_and_far(SCENES, *ANN_BEGINS)
 def the_opponents_resignation_is_accepted(table):
     bob_resigns(table)
-    table.ann.types_what('answer', 'send accept', 'send reject')
+    table.ann.types_what('answer', 'accept', 'reject')
     table.bob.sees('ann accepts and wins 1 point.')
     goes_on_to_the_next_game(table)
 
@@ -320,8 +326,8 @@ def the_opponents_resignation_is_accepted(table):
 @near_and_far(SCENES, *ANN_BEGINS)
 def the_opponents_resignation_is_rejected(table):
     bob_resigns(table)
-    table.ann.advised('answer', 'send accept', 'send reject')
-    table.ann.type('send reject')
+    table.ann.advised('answer', 'accept', 'reject')
+    table.ann.type('reject')
     table.bob.sees('ann rejects. The game continues.')
     table.bob.send('roll', 'move 1-5 12-14')
     ann_rolls(table, 'hint')
@@ -336,7 +342,7 @@ def the_opponents_resignation_gives_the_turn_away(table):
         table.ann.type(line)
         never_advised(table.ann, ('hint', 'go on', 'board', 'old'), 0.6)
     table.ann.type('help')
-    table.ann.types_what('answer', 'send accept', 'send reject')
+    table.ann.types_what('answer', 'accept', 'reject')
     table.bob.sees('ann accepts and wins 1 point.')
     goes_on_to_the_next_game(table)
 
@@ -344,8 +350,8 @@ def the_opponents_resignation_gives_the_turn_away(table):
 def declined_in_his_turn(table):
     """She declines the offer that he makes in his turn: nothing is hers to do until he has played."""
     bob_resigns(table)
-    table.ann.advised('answer', 'send accept', 'send reject')
-    table.ann.type('send reject')
+    table.ann.advised('answer', 'accept', 'reject')
+    table.ann.type('reject')
     table.bob.sees('ann rejects. The game continues.')
     table.ann.reads('You reject. The game continues.')
     never_advised(table.ann, ('hint', 'go on', 'answer', 'board', 'old'))
@@ -365,6 +371,63 @@ def the_opponents_resignation_is_rejected_and_a_board_gave_her_the_turn(table):
     declined_in_his_turn(table)
 
 
+def rows_of(ann, words):
+    """The rows of the screen that begin so."""
+    return [row for row in ann.lines() if row.startswith(words)]
+
+
+def refused_by_the_server(ann):
+    """The rows by which the server refuses something, without those of before a match."""
+    return [row for row in rows_of(ann, '** ') if not row.startswith(("** You're not playing", '** You invited',
+                                                                        '** Player '))]
+
+
+@near_and_far(SCENES, *ANN_BEGINS)
+def an_offer_is_answered_once(table):
+    """Enter is hit twice. The second line is refused, and the server hears one."""
+    bob_resigns(table)
+    table.ann.advised('answer', 'accept', 'reject')
+    table.ann.type('reject')
+    table.ann.type('Reject')
+    table.bob.sees('ann rejects. The game continues.')
+    table.bob.send('roll', 'move 1-5 12-14')
+    ann_rolls_again(table, 'hint')
+    same('what was sent', rows_of(table.ann, "sent on the server's word"), ["sent on the server's word: reject"])
+    same('refused by the client', len(table.ann.was_refused()), 1)
+    same('by the server', refused_by_the_server(table.ann), [])
+
+
+@near_and_far(SCENES, *ANN_BEGINS)
+def a_move_against_the_rules_after_an_offer_was_declined(table):
+    """It is refused, with its rule. Then a legal one goes out, in another spelling than the row has."""
+    table.begins()
+    move = table.ann.hint()
+    ann_resigns(table, 'g')
+    table.bob.send('reject')
+    table.ann.advised('go on', move)
+    table.ann.type('24/14')
+    table.ann.reads('No die plays from 24 to 14. [9 IllegalPlay]')
+    table.ann.advised('go on', move)
+    table.ann.type('m ' + move.removeprefix('move ').replace('-', '/'))
+    table.bob.sees('ann moves ..')
+    same('by the server', refused_by_the_server(table.ann), [])
+
+
+@near_and_far(SCENES, *BOB_BEGINS, '--refuse', 'roll=1')
+def a_roll_is_sent_again_once(table):
+    """The board came again on which she rolled. She hits Enter twice."""
+    ann_is_to_roll(table)
+    table.ann.type('roll')
+    table.ann.types_what('board', 'board')
+    table.ann.types_what('go on', 'roll')
+    table.ann.type('roll')
+    table.bob.sees('ann rolls ..')
+    table.ann.types_what('hint', 'move')
+    table.bob.sees('ann moves ..')
+    same('what was sent', rows_of(table.ann, 'sent again'), ['sent again: roll'])
+    same('by the server', len(refused_by_the_server(table.ann)), 1)
+
+
 # -- a board that was asked for, and comes after the answer -------------------------------------------------------------
 
 # What the server says is so long on its way, and comes in pieces.
@@ -375,9 +438,9 @@ ON_ITS_WAY = '--delay', '300', '--portions', '60', '--pause', '30'
 def a_board_comes_after_the_roll_that_a_refused_double_leads_on_to(table):
     """It is the board on which she doubled. Nobody is to answer that any more."""
     ann_doubles(table)
-    table.ann.advised('go on', 'send roll')
+    table.ann.advised('go on', 'roll')
     table.ann.type('board')
-    table.ann.type('send roll')
+    table.ann.type('roll')
     same('rows that are not true', [row for row in rows_up_to(table, 'You roll 4 and 2.') if read(row)[0]], [])
     table.ann.types_what('hint', 'move')
 
@@ -386,10 +449,10 @@ def a_board_comes_after_the_roll_that_a_refused_double_leads_on_to(table):
 def a_board_that_gives_the_turn_away_comes_after_the_answer(table):
     """It shows the offer that she has just declined."""
     bob_resigns(table)
-    table.ann.advised('answer', 'send accept', 'send reject')
+    table.ann.advised('answer', 'accept', 'reject')
     table.ann.type('board')
-    table.ann.type('send reject')
-    table.ann.reads('sent as it is: reject')
+    table.ann.type('reject')
+    table.ann.reads("sent on the server's word: reject")
     same('rows that are not true', [row for row in rows_up_to(table, 'You reject. The game continues.')
                                     if read(row)[0]], [])
     never_advised(table.ann, ('hint', 'go on', 'answer', 'board', 'old'))
@@ -399,8 +462,8 @@ def a_board_that_gives_the_turn_away_comes_after_the_answer(table):
 def a_board_that_shows_her_move_comes_after_the_answer(table):
     """It is the first one after her move, and it gives the turn away."""
     bob_resigns(table)
-    table.ann.type('send reject')
-    table.ann.reads('sent as it is: reject')
+    table.ann.type('reject')
+    table.ann.reads("sent on the server's word: reject")
     same('rows that are not true', [row for row in rows_up_to(table, 'You reject. The game continues.')
                                     if read(row)[0] not in ('', 'answer')], [])
     never_advised(table.ann, ('hint', 'go on', 'answer', 'board', 'old'))
@@ -428,13 +491,13 @@ def says_the_offer_again(typed):
         table.ann.reads('bob says: well?')
         table.ann.reads('bob says: well?')
         table.ann.type(typed)
-        table.ann.types_what('answer', 'send accept', 'send reject')
+        table.ann.types_what('answer', 'accept', 'reject')
         table.bob.sees('ann accepts and wins 1 point.')
     scene.__name__ = 'an_offer_that_scrolled_off_is_said_again_at_' + typed
     return scene
 
 
-for word in 'help', 'board', 'accept', 'reject':
+for word in 'help', 'board', 'double':
     near_and_far(SCENES, *ANN_BEGINS)(says_the_offer_again(word))
 
 
@@ -447,7 +510,7 @@ def what_others_say_is_no_answer(table):
                    'say bob accepts the double.')
     table.ann.reads('bob accepts the double.')
     table.ann.type('help')
-    table.ann.types_what('answer', 'send accept')
+    table.ann.types_what('answer', 'accept')
     table.bob.sees('ann accepts and wins 1 point.')
 
 
@@ -458,7 +521,7 @@ def a_roll_that_the_server_refuses_once(table):
     ann_is_to_roll(table)
     table.ann.type('roll')
     table.ann.types_what('board', 'board')
-    ann_rolls(table, 'go on', 'send roll')
+    ann_rolls(table, 'go on', 'roll')
 
 
 @near_and_far(SCENES, *ANN_BEGINS, '--refuse', 'move=1')
@@ -466,7 +529,7 @@ def a_move_that_the_server_refuses_once(table):
     table.begins()
     table.ann.types_what('hint', 'move')
     table.ann.types_what('board', 'board')
-    table.ann.types_what('go on', 'send move')
+    table.ann.types_what('go on', 'move')
     table.bob.sees('ann moves ..')
     table.ann.was_not_refused()
 
@@ -477,7 +540,7 @@ def an_answer_that_the_server_refuses_once(table):
     table.bob.send('double')
     table.ann.types_what('hint', 'accept')
     table.ann.types_what('board', 'board')
-    table.ann.types_what('go on', 'send accept', 'send reject')
+    table.ann.types_what('go on', 'accept', 'reject')
     table.bob.sees('ann accepts the double. The cube shows 2.')
     table.ann.was_not_refused()
 

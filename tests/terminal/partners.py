@@ -37,8 +37,7 @@ BOB = ('bob', '-', 1623.4, 4012, 0, 1)
 def who_invites_is_said_in_a_row(server):
     """With rating and experience if he is listed; in place of the server's two rows; and how one joins."""
     ann = greeted(server)
-    listed(server, [BOB, ('carl', '-', 1500, 7, 0, 1)])
-    ann.reads('2 players: type players')
+    listed(server, ann, [BOB, ('carl', '-', 1500, 7, 0, 1)])
     rows = [
         ('bob', 'a 5 point match', 'bob (1623.40, experience 4012) invites you to 5 points: join bob'),
         ('carl', 'a 1 point match', 'carl (1500.00, experience 7) invites you to 1 point: join carl'),
@@ -94,8 +93,7 @@ SAVED = ['  opponent          matchlength   score (your points first)', '  bob  
 def who_has_a_saved_match_is_said_to_be_here(server):
     """By the answer to `show saved`, when he logs in; and a star marks him in the list, in which ann is not."""
     ann = greeted(server)
-    listed(server, [BOB, ('carl', '-', 1500, 7, 0, 1), ('ann', '-', 1500, 10, 0, 1), ('eve', '-', 1400, 1, 0, 1)])
-    ann.reads('4 players: type players')
+    listed(server, ann, [BOB, ('carl', '-', 1500, 7, 0, 1), ('ann', '-', 1500, 10, 0, 1), ('eve', '-', 1400, 1, 0, 1)])
     rows = rows_after(ann, 'players', 'players.')
     same('nothing is known', rows, [
         HEAD, 'carl                   1500.00       7     0 m   ready', 'eve                    1400.00       1     0 m   ready',
@@ -223,8 +221,7 @@ def the_title_says_whose_turn_it_is():
             ann = greeted(server, TERM=kind, **{'FIBS_QUIET': '', **more})
             server.send(board_of(1), board_of(-1, other=(6, 5)), '12 x y')
             ann.reads('x says: y')
-            ann.type('quit')
-            ann.ends(0)
+            ann.quits()
             seen = bytes(ann.seen)
             wanted = [KEEP + titled(b'fibs: your turn, 0-0 of 3'), titled(b"fibs: bob's turn, 0-0 of 3"), PUT_BACK]
             found = [part in seen for part in wanted]
@@ -359,7 +356,8 @@ NARROW = ['13-14-15-16-17-18-+---19-20-21-22-23-24-', ' O           X    |    X 
           ' X                |    O                ', ' X           O    |    O                ',
           ' X           O    |    O              X ', ' X           O    |    O              X ',
           '12-11-10--9--8--7-+----6--5--4--3--2--1-', 'X bob, score 0, off 0, pips 167, dice -',
-          'match to 3, cube 1, free, your turn', 'O You, score 0, off 0, pips 167,', 'dice 4 3']
+          'match to 3, cube 1, centred, your turn', 'O You, score 0, off 0,',
+          'pips 167 (even race), dice 4 3']
 
 
 @scene
@@ -431,8 +429,7 @@ def each_kind_of_screen_leads_on(server):
     """At 60 by 15, at 40 columns, with TERM=dumb, NO_COLOR and FIBS_WORDS: whose match is saved, who invites, the game."""
     for kind in KINDS:
         ann = greeted(server, **kind)
-        listed(server, [BOB, ('carl', '-', 1500, 7, 0, 1)])
-        ann.reads('2 players: type players')
+        listed(server, ann, [BOB, ('carl', '-', 1500, 7, 0, 1)])
         server.send(*SAVED, 'and that is all', '7 bob bob logs in.')
         same('whose match is saved, %r' % kind, ann.advised('gone', 'invite bob'), ['invite bob'])
         server.send('bob wants to play a 5 point match with you.', "Type 'join bob' to accept.")
@@ -461,7 +458,7 @@ def a_move_is_tried_on_each_kind_of_screen(server):
         same('moves from 24, %r' % kind, all(' 24-' in row for row in moves[:-1]), True)
         rows = rows_after(ann, 'try 8/5 6/5', 'go sends move 8-5 6-5')
         same('rows of a picture, %r' % kind, any('13-14-15' in row for row in rows), 'FIBS_WORDS' not in kind)
-        same('the board told, %r' % kind, 'You, 163 pips:' in ' '.join(rows), 'FIBS_WORDS' in kind)
+        same('what changes, %r' % kind, 'Your pips: 163.' in ' '.join(rows), 'FIBS_WORDS' in kind)
         ann.type('go')
         ann.reads('sent move 8-5 6-5')
         same('what went out, %r' % kind, server.line(), 'move 8-5 6-5')

@@ -194,7 +194,7 @@ class Table:
 
     def comes_again(self):
         """Ann says goodbye and connects again, as the screen has it."""
-        self.ann.type('bye')
+        self.ann.takes_leave('bye', ['sent bye'])
         self.ann.types_what('open', 'open')
         self.ann.reads('Welcome, ann')
 
@@ -260,8 +260,7 @@ def has_received(server, *lines):
 
 def leaves(ann, server, *lines):
     """Ann quits, and the server has received these lines and no more."""
-    ann.type('quit')
-    ann.ends(0)
+    ann.quits()
     has_received(server, *lines)
     ann.close()
 

@@ -59,7 +59,9 @@ def the_words_of_the_pages():
     for columns in 80, 40:
         told = shown_by('show', columns=columns, held=SHOWN + '\n', FIBS_WORDS='1', COLUMNS=str(columns)).splitlines()
         same('rows that are wider', [row for row in told if len(row) > columns], [])
-        same('the page has the words', ' '.join(told) in page.replace('\n', ' '), True)
+        # what goes on of a row begins with a space
+        whole = '\n'.join(told).replace('\n ', ' ')
+        same('the page has the words', whole in page, True)
 
 
 @scene
@@ -121,8 +123,7 @@ def a_terminal_on_one_side_alone(server):
         while pathlib.Path(path).read_text() != wanted and time.monotonic() < end:
             time.sleep(0.05)
         same('the account', pathlib.Path(path).read_text(), wanted)
-        ann.type('quit')
-        ann.ends(0)
+        ann.quits()
         ann.close()
         os.mkfifo(pipe)
         ann = Reader([*FROM_FILE, pipe, *words])

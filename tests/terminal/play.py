@@ -107,8 +107,7 @@ def ctrl_c_after_a_stop(server):
     player.is_shown('cancelled')
     player.type('tell eve hi')
     player.is_shown('hello')
-    player.type('quit')
-    player.ends(0)
+    player.quits()
     player.close()
 
 
@@ -120,8 +119,7 @@ def tab_completes_the_players_names(server):
     player.shown(0.3)
     player.type_bytes(b'tell ev\t hi\n')
     player.is_shown('hello')
-    player.type('quit')
-    player.ends(0)
+    player.quits()
     player.close()
 
 
@@ -135,8 +133,7 @@ def a_small_terminal(server):
         player.is_shown('-+   O You')
         rows = [line for line in player.plain().split('\n') if re.fullmatch(r' [|+].*', line)]
         same('rows of pictures that are wider', [row for row in rows if len(row) > 72], [])
-        player.type('quit')
-        player.ends(0)
+        player.quits()
         player.close()
         time.sleep(0.3)
 
@@ -217,8 +214,7 @@ def each_file_that_is_missing_is_named(server):
             player.type_bytes(b'tell eve never\x03')
             if missing in ([], ['typed']):
                 player.is_shown('cancelled')
-                player.type('quit')
-                player.ends(0)
+                player.quits()
             else:
                 player.ends(130)
             same('the terminal is as it was', (player.echoes(), player.interrupts()), (True, b'\x03'))
@@ -244,8 +240,7 @@ def a_log(server):
         player.is_shown('Welcome, ann')
         player.type('tell eve hi')
         player.is_shown('hello')
-        player.type('quit')
-        player.ends(0)
+        player.quits()
         player.close()
         same('who may read it', os.stat(log).st_mode & 0o777, 0o600)
         held = pathlib.Path(log).read_bytes()
@@ -340,8 +335,7 @@ def a_stop_does_not_show_the_password(server):
         same('received', server.line().endswith(PASSWORD), True)
         if kind != 'dumb':
             player.edits_lines()
-        player.type('quit')
-        player.ends(0)
+        player.quits()
         same('the password is shown', PASSWORD in player.screen(), False)
         player.close()
 
@@ -382,7 +376,7 @@ def tab_completes_the_words(server):
         player.shown(0.3)
         player.type_bytes(b'withd\t')
         player.sees('withdraw')
-        player.type_bytes(b' ro\t')
+        player.type_bytes(b' rol\t')
         player.sees(' roll')
         player.type('')
         player.sees('[12 NotOrdered]')
@@ -406,8 +400,7 @@ def tab_completes_by_place(server):
             same('after %r' % typed, row, shown)
             player.type_bytes(b'\x03')
             player.shown(0.2)
-        player.type('quit')
-        player.ends(0)
+        player.quits()
         player.close()
         for other in others:
             other.close()

@@ -56,13 +56,18 @@ def a_wrong_password_far_away(ann, _server):
 @with_a_wrong_password('--tell-strangers', statuses=(0, 3))
 def a_wrong_password_while_others_come_and_go(ann, server):
     """Each of them is told, behind the prompt that she is asked by."""
-    end = time.monotonic() + 4
-    while time.monotonic() < end:
+    def times():
+        return len([row for row in ann.lines() if read(row)[0] == 'login'])
+
+    # a busy machine takes its time; when it is said they go on for a while
+    end, after = time.monotonic() + 30, 4
+    while time.monotonic() < end and after > 0:
         bob = Client(server.port, 'bob')
         bob.send('bye')
         bob.close()
         time.sleep(0.3)
-    same('it is said, and once', len([row for row in ann.lines() if read(row)[0] == 'login']), 1)
+        after -= 0.3 if times() else 0
+    same('it is said, and once', times(), 1)
 
 
 # each line of the server comes a while after the one before it
@@ -104,8 +109,7 @@ def no_server():
     same('the first time', ann.reads('no connection').startswith(wanted), True)
     ann.type('open')
     same('the second time', ann.reads('no connection').startswith(wanted), True)
-    ann.type('quit')
-    ann.ends(0)
+    ann.quits()
     ann.was_not_refused()
     ann.close()
 
@@ -114,8 +118,7 @@ def no_such_name():
     """The name of the server has no address, since it is misspelled: that is said."""
     ann = Person(4321, host='nowhere.invalid')
     ann.reads('no connection to nowhere.invalid:4321: no address is known; open tries again')
-    ann.type('quit')
-    ann.ends(0)
+    ann.quits()
     ann.was_not_refused()
     ann.close()
 
@@ -139,6 +142,7 @@ def by_itself(*turned_on):
         ann.advised('auto', 'bye')
         ann.type('help')
         ann.types_what('auto', 'bye')
+        ann.types_what('leave', 'bye')
         ann.types_what('open', 'open')
         ann.reads('Welcome, ann')
         ann.types_what('gone', 'invite bob')

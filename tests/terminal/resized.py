@@ -63,7 +63,7 @@ def a_window_of_another_width_is_told_before_the_next_line():
 
 
 # How the program ends: what is typed or sent, and the status.
-ENDINGS = [(b'quit\n', 0), (b'\x04', 0), (b'\x03', 130), (b'\x1c', 131), (signal.SIGINT, 130), (signal.SIGTERM, 143),
+ENDINGS = [(b'quit\nquit\n', 0), (b'\x04\x04', 0), (b'\x03', 130), (b'\x1c', 131), (signal.SIGINT, 130), (signal.SIGTERM, 143),
            (signal.SIGHUP, 129)]
 
 # The title before.
@@ -248,8 +248,7 @@ def tab_knows_each_player_who_was_listed():
             same('one who was listed at the login', server.line(), 'tell yolanda hello')
             ann.type_bytes(b'tell wal\tlace hello\n')
             same('a name that is not', server.line(), 'tell wallace hello')
-            ann.type('quit')
-            ann.ends(0)
+            ann.quits()
             same('a log that is left', log.exists(), logs)
             ann.close()
         server.close()

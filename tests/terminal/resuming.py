@@ -145,7 +145,7 @@ def a_roll_crosses_his_leaving(table):
     table.ann.type(table.ann.answered_and_advised("** You're not playing.", 'gone', 'invite bob'))
     bob_joins(table)
     table.ann.reads(' +13-14-15-16-17-18-+---+19-20-21-22-23-24-+')
-    ann_rolls(table, 'go on', 'send roll')
+    ann_rolls(table, 'go on', 'roll')
 
 
 @at_a_table(*ANN_BEGINS, *CROSSING)
@@ -157,7 +157,7 @@ def a_move_crosses_his_leaving(table):
     # on a busy machine the row that says how to go on comes before this answer
     table.ann.type(table.ann.answered_and_advised("** You're not playing.", 'gone', 'invite bob'))
     bob_joins(table)
-    moves_as(table, 'go on', 'send ' + move)
+    moves_as(table, 'go on', move)
 
 
 @at_a_table(*ANN_BEGINS, *CROSSING, '--say-how')
@@ -172,7 +172,7 @@ def a_move_crosses_his_drop_and_he_invites_her(table):
     comes_again(table)
     table.bob.send('invite ann')
     table.ann.types_what('invited', 'join bob')
-    moves_as(table, 'go on', 'send ' + move)
+    moves_as(table, 'go on', move)
 
 
 @at_a_table(*BOB_BEGINS, *CROSSING)
@@ -196,7 +196,7 @@ def a_roll_crosses_his_leaving_and_no_board_comes(table):
     table.ann.type(table.ann.answered_and_advised("** You're not playing.", 'gone', 'invite bob'))
     bob_joins(table)
     table.ann.types_what('board', 'board')
-    ann_rolls(table, 'go on', 'send roll')
+    ann_rolls(table, 'go on', 'roll')
 
 
 @near_and_far(SCENES, *BOB_BEGINS, '--forget-offers')
@@ -220,7 +220,7 @@ def her_double_is_forgotten_and_the_board_is_the_same(table):
     table.bob.sees("ann doubles. Type 'accept' or 'reject'.")
     table.bob.send('leave')
     takes_up(table)
-    ann_rolls(table, 'go on', 'send roll', )
+    ann_rolls(table, 'go on', 'roll')
 
 
 # -- games and matches that follow ------------------------------------------------------------------------------------
@@ -240,7 +240,7 @@ def the_same_first_board_in_the_next_match(table):
     bob_joins(table)
     ann.reads('Starting a new game with bob.')
     ann.reads(' +13-14-15-16-17-18-+---+19-20-21-22-23-24-+')
-    moves_as(table, 'go on', 'send ' + move)
+    moves_as(table, 'go on', move)
 
 
 @near_and_far(SCENES, '--dice', '31,31,42', '--delay', '500')
@@ -255,7 +255,7 @@ def the_same_first_board_after_a_match_that_he_left(table):
     bob_joins(table)
     ann.reads('Starting a new game with bob.')
     ann.reads(' +13-14-15-16-17-18-+---+19-20-21-22-23-24-+')
-    moves_as(table, 'go on', 'send ' + move)
+    moves_as(table, 'go on', move)
 
 
 @near_and_far(SCENES, *ANN_BEGINS)
@@ -385,7 +385,7 @@ def comes_again_while_he_waits(table):
 def an_offer_that_is_open_while_she_connects_again(table):
     """She is told how it is answered if she asks."""
     comes_again_while_he_waits(table)
-    table.ann.types_what('wait', 'send accept', 'send reject')
+    table.ann.types_what('wait', 'accept', 'reject')
     table.bob.sees('ann accepts and wins 1 point.')
     goes_on_to_the_next_game(table)
 
@@ -394,7 +394,7 @@ def an_offer_that_is_open_while_she_connects_again(table):
 def an_offer_that_is_open_while_she_connects_again_and_gives_the_turn_away(table):
     """The board of the new connection says that she may roll."""
     comes_again_while_he_waits(table)
-    table.ann.types_what('wait', 'send accept', 'send reject')
+    table.ann.types_what('wait', 'accept', 'reject')
     table.bob.sees('ann accepts and wins 1 point.')
     goes_on_to_the_next_game(table)
 
@@ -403,8 +403,8 @@ def an_offer_that_is_open_while_she_connects_again_and_gives_the_turn_away(table
 def an_offer_that_gave_the_turn_away_is_declined_after_a_new_connection(table):
     """The turn is his again, and no row says otherwise."""
     comes_again_while_he_waits(table)
-    table.ann.advised('wait', 'send accept', 'send reject')
-    table.ann.type('send reject')
+    table.ann.advised('wait', 'accept', 'reject')
+    table.ann.type('reject')
     table.bob.sees('ann rejects. The game continues.')
     never_advised(table.ann, ('hint', 'go on', 'answer', 'board', 'old'))
     table.bob.send('roll', 'move 1-5 12-14')
@@ -423,7 +423,7 @@ def an_offer_that_gave_the_turn_away_is_over_after_a_new_connection(table):
     table.ann.reads('Welcome, ann')
     table.ann.reads(' +12-11-10--9--8--7-+---+-6--5--4--3--2--1-+')
     table.ann.type('help')
-    table.ann.types_what('wait', 'send accept')
+    table.ann.types_what('wait', 'accept')
     table.ann.reads("** Your opponent didn't double or resign.")
     table.ann.types_what('board', 'board')
     ann_rolls(table, 'hint')
@@ -477,7 +477,7 @@ def she_rolls_while_he_has_her_offer(table):
     never_advised(table.ann, FALSE)
     table.bob.send('reject')
     table.ann.types_what('board', 'board')
-    ann_rolls(table, 'go on', 'send roll')
+    ann_rolls(table, 'go on', 'roll')
 
 
 @near_and_far(SCENES, *BOB_BEGINS, '--forget-offers')
@@ -513,7 +513,7 @@ def an_offer_that_is_over_when_she_answers(table):
     bob_resigns(table)
     table.ann.advised('answer')
     table.bob.send('roll')
-    table.ann.type('send accept')
+    table.ann.type('accept')
     table.ann.reads("** Your opponent didn't double or resign.")
     never_advised(table.ann, ('answer', 'board', 'old'))
     table.bob.send('move 1-5 12-14')

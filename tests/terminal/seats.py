@@ -11,7 +11,7 @@ import time
 from collections import Counter, deque
 
 from people import BOLD, PASSWORD_FILE, PROGRAM
-from words import ENDED, INVITED, REFUSED, read, sent_by
+from words import ENDED, INVITED, REFUSED, read, sent_by, typed_as
 
 # A row is read with those that came with it, and then something is typed.
 READS = 0.03
@@ -26,6 +26,9 @@ TALK = ['kibitz %s rejects. The game continues.', 'say %s accepts the double.', 
 
 # With bold letters, and without.
 TERMINALS = 'xterm', 'dumb'
+
+# What says that the opponent offers to resign.
+OF_OFFERS = re.compile(r'to resign|for your answer|accept or reject')
 
 # The first and the last row of a picture.
 EDGE = re.compile(r' \+[-\d]+\+---\+[-\d]+\+.*')
@@ -73,12 +76,27 @@ def drawn(rows):
     return places
 
 
-def is_of(rows, board):
-    """True if a picture shows the checkers of a board line, in the numbers of its player: he goes down."""
+def places_of(board):
+    """The checkers of a board line on each place, in the numbers of its player, who goes down: his own above 0."""
     fields = board.split(':')
     colour, is_up = int(fields[41]), fields[42] == '1'
-    wanted = {25 - place if is_up else place: colour * int(fields[6 + place]) for place in range(1, 25)}
-    return drawn(rows) == wanted
+    return {25 - place if is_up else place: colour * int(fields[6 + place]) for place in range(1, 25)}
+
+
+def is_of(rows, board):
+    """True if a picture shows the checkers of a board line."""
+    return drawn(rows) == places_of(board)
+
+
+def is_after(rows, board, steps):
+    """True if it shows them after some steps of the player."""
+    places = places_of(board)
+    for begin, end in steps:
+        if begin != 'bar':
+            places[int(begin)] -= 1
+        if end != 'off':
+            places[int(end)] = max(places[int(end)], 0) + 1
+    return drawn(rows) == places
 
 
 class Seat:
@@ -100,6 +118,8 @@ class Seat:
         # the server has refused a double in this game
         self.has_refused_double = False
         self.counts, self.faults, self.stalls, self.alarms = Counter(), [], [], []
+        # all lines that he has typed
+        self.decided = []
         # rows since the last move
         self.since_move, self.turns = None, []
         self.read_to, self.of_picture = {}, ''
@@ -157,7 +177,7 @@ class Seat:
             self.alarm('a row of %d columns' % len(row), row)
         if line := sent_by(row):
             # what was named before a decision is done; what was sent may be another line, typed before it
-            if line == self.awaited.removeprefix('send '):
+            if self.awaited.removeprefix('send ') in (line, typed_as(row)):
                 self.awaited = ''
                 self.row = self.row if line == 'board' else None
             self.sent[-1].append(line)
@@ -234,6 +254,8 @@ class Seat:
         if kind in ('open', 'login'):
             # each password is right
             return 'right' if kind == 'open' else 'false'
+        if kind == 'leave':
+            return 'right' if any(one.match is not None for one in moments) else 'false'
         if kind == 'auto':
             return 'right' if self.game.room.informed.get(self.name) else 'false'
         if kind == 'gone':
@@ -274,9 +296,20 @@ class Seat:
     def judge_picture(self, picture):
         link = self.link()
         self.counts['pictures'] += 1
-        if not link or not any(is_of(picture, board) for board in link.boards[-6:]):
-            self.counts['pictures that no board had'] += 1
-            self.alarm('a picture of no board', picture[0])
+        boards = link.boards[-6:] if link else []
+        if any(is_of(picture, board) for board in boards):
+            return
+        if any(is_after(picture, board, self.steps_sent()) for board in boards):
+            self.counts['pictures after a move that was sent'] += 1
+            return
+        self.counts['pictures that no board had'] += 1
+        self.alarm('a picture of no board', picture[0])
+
+    def steps_sent(self):
+        """The steps of the move that was sent last, in the player's own numbers."""
+        sent = [row for row in self.rows if row.startswith('sent move ')]
+        words = re.findall(r'(\w+)-(\w+)', sent[-1].rpartition(' (in your numbers ')[2]) if sent else []
+        return words
 
     def alarm(self, what, row):
         if len(self.alarms) < 6:
@@ -288,6 +321,7 @@ class Seat:
 
     def type(self, line, why):
         self.typed, self.why, self.last_typed = line, why, time.monotonic()
+        self.decided.append(line)
         self.awaited = line if why in HINT_ALONE and line not in ('open', 'quit') else ''
         self.rows.append('> ' + line)
         os.write(self.fd, line.encode() + b'\n')
@@ -367,10 +401,22 @@ class Seat:
         elif idle > STUCK:
             self.stuck(moment)
 
+    def was_told(self, moment):
+        """False if all that the server waits for is the answer to an offer to resign of which no row of this connection
+        speaks: it was made while the player was away, or its text was cut off, and this server says it once."""
+        if moment.match is None or moment.match.resigner is None:
+            return True
+        rows = list(self.rows)
+        since = max((at for at, row in enumerate(rows) if row.startswith('connected to ')), default=0)
+        return any(OF_OFFERS.search(row) for row in rows[since:])
+
     def stuck(self, moment):
         """The match stands still. It is helped on by what the server would take."""
-        self.counts['stalls'] += 1
-        self.stalls.append((moment.in_words(self.name), list(self.rows)[-60:]))
+        if self.was_told(moment):
+            self.counts['stalls'] += 1
+            self.stalls.append((moment.in_words(self.name), list(self.rows)[-60:]))
+        else:
+            self.counts['offers of which the server said nothing'] += 1
         self.has_asked = False
         if moment.match is None:
             self.type('invite ' + self.other, 'stuck')

@@ -22,17 +22,15 @@ CUBE = re.compile(r"Cube \d+, (?:in the middle|yours|the opponent's|no doubling)
 WAY = re.compile(r'You go (down, from 24 to 1|up, from 1 to 24)\.')
 SIDE = re.compile(r'(\S+), (\d+) pips: ((?:\d+ on (?:the bar|\d+), )*)(none|\d+) off\.')
 HELD = re.compile(r'Held against you: (none|\d+(?:, \d+)*)\.')
-ROWS = TURN, DICE, SCORE, CUBE, WAY, SIDE, SIDE, HELD
+BLOTS = re.compile(r"Blots: yours (none|\d+(?:, \d+)*); (\S+)'s (none|\d+(?:, \d+)*)\.")
+ROWS = TURN, DICE, SCORE, CUBE, WAY, SIDE, SIDE
+# Those that `words short` leaves out if they are as they were.
+LASTING = 2, 3, 4
 STACK = re.compile(r'(\d+) on (the bar|\d+)')
 
 # A row of a picture.
 DRAWN = re.compile(r' [+|].*')
 ROLLED = re.compile(r'You roll (\d) and (\d)\.')
-
-
-def is_told(rows):
-    """True if these rows are a board in words."""
-    return len(rows) == len(ROWS) and all(form.fullmatch(row) for form, row in zip(ROWS, rows))
 
 
 def side_of(row, goes_up):
@@ -58,8 +56,14 @@ class Position:
         same('checkers', (sum(self.own), sum(self.other)), (15, 15))
         same('pips', (pips, other_pips), (rules.pips(self.own), rules.pips(self.other)))
         held = [place for place in range(24, 0, -1) if self.other[25 - place] > 1]
-        told = HELD.fullmatch(rows[7])[1]
-        same('held places', told, ', '.join(map(self.number, held)) or 'none')
+        own_blots = [place for place in range(24, 0, -1) if self.own[place] == 1]
+        other_blots = [25 - place for place in range(24, 0, -1) if self.other[place] == 1]
+        # what has to be told of them
+        self.held = self.listed(held)
+        self.blots = self.listed(own_blots), self.listed(other_blots)
+
+    def listed(self, places):
+        return ', '.join(map(self.number, places)) or 'none'
 
     def number(self, place):
         return str(25 - place if self.goes_up else place)
@@ -73,10 +77,13 @@ class Position:
 class Listener:
     """One who hears the rows and plays by them alone: no hint is read."""
 
-    def __init__(self, server, seed, **more):
+    def __init__(self, server, seed, short=False, **more):
         self.chance = random.Random(seed)
+        self.short = short
         self.ann = Person(server.port, FIBS_WORDS='1', **more)
         self.rows, self.told, self.position, self.typed, self.early = [], [], None, [], 0
+        # the rows of a board that is coming, what was told of the places behind the board, and what has to be
+        self.coming, self.behind, self.wanted = [], {}, {}
 
     def types(self, line):
         self.typed.append(line)
@@ -97,10 +104,39 @@ class Listener:
         steps = self.chance.choice(plays)
         self.types('move ' + ' '.join(self.position.step(*step) for step in steps))
 
+    def hears_part(self, row):
+        """A row of a board, perhaps: one that is left out is as it was before. True if the board is told."""
+        if TURN.fullmatch(row):
+            same('places behind the board', self.behind, self.wanted)
+            self.coming, self.behind, self.wanted = [row], {}, {}
+            return False
+        if not self.coming or len(self.coming) == len(ROWS):
+            return False
+        at = len(self.coming)
+        while self.short and self.told and at in LASTING and not ROWS[at].fullmatch(row):
+            self.coming.append(self.told[-1][at])
+            at += 1
+        if not ROWS[at].fullmatch(row):
+            self.coming = []
+            return False
+        self.coming.append(row)
+        return len(self.coming) == len(ROWS)
+
+    def hears_places(self, row):
+        """The places that are held, and the blots."""
+        if found := HELD.fullmatch(row):
+            self.behind['held'] = found[1]
+        elif found := BLOTS.fullmatch(row):
+            self.behind['blots'] = found[1], found[3]
+
     def hears_board(self, rows):
         """A whole board was told."""
+        before, self.position = self.position, Position(rows)
+        for what in 'held', 'blots':
+            now = getattr(self.position, what)
+            if not self.short or before is None or getattr(before, what) != now:
+                self.wanted[what] = now
         self.told.append(rows)
-        self.position = Position(rows)
         dice = DICE.fullmatch(rows[1])
         if rows[0] == 'Your turn, to roll.':
             self.types('roll')
@@ -112,14 +148,15 @@ class Listener:
     def hears(self, row):
         """A row was said."""
         self.rows.append(row)
+        self.hears_places(row)
         if DRAWN.fullmatch(row):
             raise Failed('a row of a picture: %r' % row)
         if row.endswith(' [6 Waiting]') and self.early < 50:
             self.types_again()
         elif REFUSED.fullmatch(row):
             raise Failed('%r was refused: %r' % (self.typed[-1:], row))
-        elif is_told(self.rows[-len(ROWS):]):
-            self.hears_board(self.rows[-len(ROWS):])
+        elif self.hears_part(row):
+            self.hears_board(self.coming)
         elif found := ROLLED.fullmatch(row):
             self.moves((int(found[1]), int(found[2])))
         elif row.endswith(': join eve'):
@@ -135,14 +172,15 @@ class Listener:
                 raise Failed('stuck after %r, %r: %s' % (self.rows[-9:], self.typed[-3:], stuck)) from None
 
 
-def match_by_ear(*options, seed=1, bot='invites=2,plays=random', **more):
-    """A match that is played by what is heard."""
+def match_by_ear(*options, seed=1, bot='invites=2,plays=random', first=None, **more):
+    """A match that is played by what is heard; a line is typed first, if there is one."""
     server = Served('--bot', 'eve:' + bot, '--bot-pause', '20', '--seed', str(seed), *options)
     try:
         listener = Listener(server, seed, columns=300, COLUMNS='300', **more)
+        if first is not None:
+            listener.ann.type(first)
         listener.plays_to_the_end()
-        listener.ann.type('quit')
-        listener.ann.ends(0)
+        listener.ann.quits()
         listener.ann.close()
         return listener
     finally:
@@ -154,6 +192,15 @@ def by_ear_alone():
     for seed, options in enumerate(([], ['--mixed-sides'], ['--no-changes'])):
         listener = match_by_ear(*options, seed=seed + 1)
         same('boards were told', len(listener.told) > 10, True)
+
+
+def by_what_is_new():
+    """A player who types `words short` plays matches by what is told of each board, and what was told before."""
+    counts = []
+    for short in False, True:
+        listener = match_by_ear(seed=5, short=short, first='words short' if short else None)
+        counts.append(sum(len(row.split()) for row in listener.rows) / len(listener.told))
+    same('fewer words a board', counts[1] < counts[0], True)
 
 
 def no_row_is_wider():
@@ -170,7 +217,7 @@ def no_row_is_wider():
             same('rows of %d columns' % columns, [line for line in told if len(line) > columns], [])
             same('rows fit %d' % rows, len(told) < rows, True)
             same('pictures', [line for line in lines if DRAWN.fullmatch(line)], [])
-            same('the words', ' '.join(told), ' '.join(FIRST))
+            same('the words', '\n'.join(told).replace('\n ', ' ').split('\n'), FIRST)
             table.ann.type('quit')
         finally:
             table.close()
@@ -186,6 +233,7 @@ FIRST = [
     'You, 167 pips: 2 on 24, 5 on 13, 3 on 8, 5 on 6, none off.',
     'bob, 167 pips: 2 on 1, 5 on 12, 3 on 17, 5 on 19, none off.',
     'Held against you: 19, 17, 12, 1.',
+    "Blots: yours none; bob's none.",
 ]
 
 
@@ -195,7 +243,7 @@ def words_at_any_time():
     try:
         ann = table.ann
         ann.type('words')
-        ann.reads('No board on which you play was shown.')
+        ann.reads('You are in no match: invite NAME 5 begins one.')
         table.begins()
         ann.hint()
         ann.type('Words')
@@ -206,4 +254,4 @@ def words_at_any_time():
         table.close()
 
 
-SCENES = [by_ear_alone, no_row_is_wider, words_at_any_time]
+SCENES = [by_ear_alone, by_what_is_new, no_row_is_wider, words_at_any_time]

@@ -9,6 +9,7 @@ import signal
 import struct
 import subprocess
 import sys
+import tempfile
 import termios
 import threading
 import time
@@ -32,6 +33,10 @@ KINDS = ['dumb'] + (['xterm'] if RLWRAP else [])
 # A command with its input from a file, or its output to one.
 FROM_FILE = ['sh', '-c', 'file=$1; shift; exec "$@" < "$file"', 'sh']
 TO_FILE = ['sh', '-c', 'file=$1; shift; exec "$@" > "$file"', 'sh']
+
+# Where matches are recorded, unless a scene names another place.
+DATA = tempfile.TemporaryDirectory()
+os.environ['XDG_DATA_HOME'] = DATA.name
 
 # No other process knows it.
 PASSWORD = 'hunter' + os.urandom(4).hex()
@@ -157,6 +162,26 @@ class Terminal:
     def to_the_foreground(self):
         """The shell's `fg`."""
         os.write(self.orders, b'f')
+
+    def takes_leave(self, word, after=()):
+        """Types a word by which one leaves, and once more if the screen asks, since a match is on. It has done so when
+        the command has ended, or one of these texts is shown."""
+        at = len(self.seen)
+        self.type(word)
+        self.wait_until('the screen answers ' + word, lambda: self.has_shown(at, 'You are in a match', *after) or
+                        select.select([self.reports], [], [], 0)[0])
+        if self.has_shown(at, 'You are in a match'):
+            self.type(word)
+
+    def has_shown(self, at, *texts):
+        """Whether one of these texts was shown from a place on."""
+        with self.news:
+            return any(text.encode() in self.seen[at:] for text in texts)
+
+    def quits(self, status=0):
+        """Leaves by `quit`, and the command ends so."""
+        self.takes_leave('quit')
+        self.ends(status)
 
     def ends(self, status=0):
         """The command ends so: 128 and the number for a signal, as shells have it. All is shown then."""

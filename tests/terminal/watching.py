@@ -23,7 +23,7 @@ PICTURE = """\
  |                  |BAR|                  |   cube 1, in the middle
  | X                |   | O                |   O bob's turn
  | X                |   | O                |     dice  -
- | X           O    |   | O                |     pips  167
+ | X           O    |   | O                |     pips  167 (even race)
  | X           O    |   | O              X |     off   0
  | X           O    |   | O              X |     score 0
  +12-11-10--9--8--7-+---+-6--5--4--3--2--1-+   O bob""".split('\n')
@@ -37,7 +37,8 @@ Cube 1, in the middle.
 bob goes down, from 24 to 1.
 bob, 167 pips: 2 on 24, 5 on 13, 3 on 8, 5 on 6, none off.
 eve, 167 pips: 2 on 1, 5 on 12, 3 on 17, 5 on 19, none off.
-Held against bob: 19, 17, 12, 1.""".split('\n')
+Held against bob: 19, 17, 12, 1.
+Blots: bob's none; eve's none.""".split('\n')
 
 # The longest names, which begin alike.
 LONG = 'n' * 64, 'n' * 63 + 'm'
@@ -75,13 +76,16 @@ def typed(ann, server, word):
 
 
 def watched(server):
-    """Ann watches bob, and no board has come."""
+    """Ann watches bob, and no board has come: one is asked for."""
     ann = greeted(server)
     ann.type('watch bob')
     ann.reads('sent as it is: watch bob')
     same('what was sent', server.line(), 'watch bob')
-    same('what is said', rows_to(ann, server, "You're now watching bob."),
-         ["You're now watching bob.", 'board shows the game now, unwatch ends it.'])
+    rows = rows_to(ann, server, "You're now watching bob.")
+    if 'sent board' not in rows:
+        ann.reads('sent board')
+    same('what is said', [row for row in rows if row != 'sent board'], ["You're now watching bob."])
+    same('what is asked for', server.line(), 'board')
     return ann
 
 
@@ -108,8 +112,7 @@ def a_watched_board_is_drawn_with_both_names(server):
     same('help', HINT in typed(ann, server, 'help'), True)
     same('in words', typed(ann, server, 'words'), WORDS)
     same('it decides nothing', [row[-11:] for row in typed(ann, server, 'roll')], ['[5 NoBoard]'])
-    ann.type('quit')
-    ann.ends(0)
+    ann.quits()
     same('nothing was sent', server.line(), None)
 
 
@@ -163,7 +166,6 @@ def a_match_is_watched_at_a_server():
     bob.sees('Please move ..')
     ann.type('watch bob')
     ann.reads("You're now watching bob.")
-    ann.type('board')
     ann.reads("O bob's turn")
     ann.reads(HINT)
     bob.send('move 8-5 6-5')

@@ -7,7 +7,7 @@ talks, leaves, or says goodbye. The habits of the server, the delays, portions a
 the server knew at that moment it is judged whether each row was true and led on, whether the match stood still, what
 was sent and how often, and what the pictures showed. The last line is 'N passed, M failed', of the matches.
 
-It was seen to find: a hint that names no move if one is to be made.
+It was seen to find: a hint that names no move if one is to be made; a decision that was sent twice.
 """
 
 import argparse
@@ -28,6 +28,9 @@ from wire import Manners
 # How long a match may take, the program its last row, and a busy machine what is missing then.
 LONGEST = 400
 LAST_ROW, LATE = 0.4, 20
+
+# The first words of decisions.
+DECISIONS = 'roll', 'double', 'accept', 'reject', 'move', 'resign'
 
 # What the gate plays.
 MATCHES, BESIDE, SEED = 30, 10, 1
@@ -153,7 +156,7 @@ class Game:
             stalls += [(seat.name, *stall) for stall in seat.stalls]
             alarms += [(seat.name, *alarm) for alarm in seat.alarms]
             turns += seat.turns
-            faults += self.sent_otherwise(seat)
+            faults += self.sent_otherwise(seat) + self.heard_twice(seat)
         illegal = [one for one in self.room.refused if is_against_the_rules(one)]
         faults += ['a move against the rules: %r' % (one,) for one in illegal]
         counts['lines that the server refused'] += len(self.room.refused)
@@ -161,6 +164,13 @@ class Game:
         return {'counts': counts, 'stalls': stalls, 'alarms': alarms, 'faults': faults, 'turns': turns,
                 'ended': self.room.ended, 'seconds': seconds, 'habits': repr(self.habits),
                 'manners': repr(self.manners)}
+
+    def heard_twice(self, seat):
+        """The server hears a decision no more often than the player has typed it."""
+        typed = Counter(word for line in seat.decided for word in [line.removeprefix('send ').split(' ')[0]])
+        heard = Counter(line.split(' ')[0] for link in self.links[seat.name] for line in link.lines)
+        return ['%s: %s came %d times, and was typed %d times' % (seat.name, word, heard[word], typed[word])
+                for word in DECISIONS if heard[word] > typed[word]]
 
     def sent_otherwise(self, seat):
         """Each line of a connection is a row of the screen, and no row is there twice."""
@@ -288,7 +298,23 @@ def what_is_sent_after_a_connection_that_ended_at_once():
     same('what was sent otherwise', game.sent_otherwise(seat), [])
 
 
-SCENES = [thirty_matches_by_the_screen_alone, what_is_sent_after_a_connection_that_ended_at_once]
+def a_hint_is_done_once_its_move_is_sent():
+    """Also if it comes again before that, and if the move has other numbers for the server."""
+    game = Game(0, SEED)
+    game.room = Witnessed(time.monotonic, game.names, game.habits)
+    name, other = game.names
+    for typed, sent in (('move 24-20 20-15', 'sent move 1-5 5-10 (in your numbers 24-20 20-15)'),
+                        ('move 8-5 6-5', 'sent move 8-5 6-5'), ('roll', 'sent roll')):
+        seat = Unseated(game, name, other, 0)
+        seat.link = lambda: None
+        seat.sent.append([])
+        seat.awaited, seat.row = typed, ('hint', [typed])
+        seat.reads(sent)
+        same('what is named after %r' % sent, (seat.row, seat.awaited), (None, ''))
+
+
+SCENES = [thirty_matches_by_the_screen_alone, what_is_sent_after_a_connection_that_ended_at_once,
+          a_hint_is_done_once_its_move_is_sent]
 
 
 def main():

@@ -7,13 +7,14 @@ import re
 
 MOVE = r'move(?: (?:bar|\d+)-(?:off|\d+))+'
 SEND = r'send (?:roll|double|accept|reject|%s)' % MOVE
-# one line with `send`, or two
-SENDS = r'(%s)(?:, or (%s))?' % (SEND, SEND)
+# a decision in place of the one that waits, or two
+WAY = r'(?:roll|double|accept|reject|%s)' % MOVE
+WAYS = r'(%s)(?:, or (%s))?\.' % (WAY, WAY)
 
 # Kinds: `hint`, what the client takes now; `answer`, an offer of which texts alone tell; `board`, that is to be asked
-# for, and `doubles`, that it is for a double; `go on`, a line that goes as it is; `wait`, what is said if one asks;
-# `next`, between two games; `gone`, a match that may be saved; `invited`; `auto`, the server plays by itself; `open`,
-# there is no connection; `login`, it was refused.
+# for, and `doubles`, that it is for a double; `go on`, what is decided in place of what waits; `wait`, what is said if
+# one asks; `next`, between two games; `gone`, a match that may be saved; `invited`; `auto`, the server plays by itself;
+# `open`, there is no connection; `leave`, a match is on; `login`, it was refused.
 ROWS = [(kind, re.compile(form), more) for kind, form, *more in [
     ('hint', r'Your turn: (roll)\.'),
     ('hint', r'Your turn: (roll), or (double)\.'),
@@ -22,18 +23,18 @@ ROWS = [(kind, re.compile(form), more) for kind, form, *more in [
     ('hint', r'You are offered a double: (accept), or (reject)\.'),
     ('hint', r'You are offered a double: (reject)\.'),
     ('hint', r'Your move, as in: (%s)' % MOVE),
-    ('answer', r'\S+ offers to resign: (send accept), or (send reject)\.'),
-    ('answer', r'\S+ waits for your answer: (send accept), or (send reject)\.'),
-    ('wait', r'\S+ may wait for your answer: (send accept), or (send reject)\.'),
+    ('answer', r'\S+ offers to resign: (accept), or (reject)\.'),
+    ('answer', r'\S+ waits for your answer: (accept), or (reject)\.'),
+    ('wait', r'\S+ may wait for your answer: (accept), or (reject)\.'),
     ('doubles', r'\S+ doubles: (board), then accept, or reject\.'),
     ('board', r'It may be your turn: (board) shows the game\.'),
     ('board', r'\S+ was refused: (board) shows the game\.'),
-    ('go on', r'\S+ declined\? Go on: %s' % SENDS),
-    ('go on', r'The board is as it was: %s' % SENDS),
-    ('wait', r'If it is your turn: %s' % SENDS),
+    ('go on', r'\S+ declined\? Go on: %s' % WAYS),
+    ('go on', r'The board is as it was: %s' % WAYS),
+    ('wait', r'If it is your turn: %s' % WAYS),
     ('wait', r'\S+ may still have to answer your offer\.'),
     ('wait', r'\S+ has not answered yet\.'),
-    ('wait', r'If the game goes on: %s' % SENDS),
+    ('wait', r'If the game goes on: (%s)' % SEND),
     ('wait', r'If the game goes on: (roll|accept|%s)' % MOVE),
     ('wait', r'\S+ was sent: (board) asks what became of it\.'),
     ('next', r'The game is over: (join) goes on, (leave) saves the match\.'),
@@ -49,6 +50,7 @@ ROWS = [(kind, re.compile(form), more) for kind, form, *more in [
     ('auto', r'then (open)(?:, and (invite \S+))?\.'),
     ('open', r'lost.*: (open) connects again, (quit) ends'),
     ('open', r'no connection to .*', 'open', 'quit'),
+    ('leave', r'You are in a match.*: (quit|bye) again leaves\.'),
     ('login', r'Not logged in: wrong name or password\? (quit), and begin again\.'),
     # what was said in place of `go on`, before the screen knew what a text says
     ('old', r'(?:.* )?or the server refused, (send .*); or (bye) and open\.'),
@@ -59,11 +61,15 @@ REFUSED = re.compile(r'.*\[\d+ [A-Z][A-Za-z]+\]|(?:refused|fault) \d+ \w+|unknow
                      r'|[Nn]ot a word of this client.*')
 
 # What went to the server, in full.
-SENT = re.compile(r'sent as it is: (.*)|sent (move .*?) \(in your numbers .*\)|sent (.*?)(?:, as ordered)?')
+SENT = re.compile(r"sent as it is: (.*)|sent (?:again: |on the server's word: )?(?:(move .*?) \(in your numbers.*|(.*?)"
+                  r'(?:, as ordered)?)')
+
+# The same of a move, in the numbers of who has typed it.
+OWN = re.compile(r'sent move .*? \(in your numbers (.*)\)')
 
 # What the server says, that one goes by too.
 INVITED = re.compile(r"(?:Type '|\S+ (?:\(.*\) )?invites you to .*: |You are invited: )(join [^\s']+)(?:' to accept\.)?")
-ENDED = re.compile(r'(?:You win|\S+ wins) the \d+ point match .*')
+ENDED = re.compile(r'(?:(?:You win|\S+ wins) (?:the game.*, and )?|and )the \d+ point match .*')
 
 
 def read(row):
@@ -78,3 +84,9 @@ def sent_by(row):
     """The line that went to the server, if a row says so."""
     found = SENT.fullmatch(row)
     return (found[1] or found[2] or found[3]) if found else None
+
+
+def typed_as(row):
+    """The same line as the user types it: a move in his own numbers, if the row says those too."""
+    found = OWN.fullmatch(row)
+    return 'move ' + found[1] if found else sent_by(row)
