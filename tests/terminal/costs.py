@@ -96,10 +96,6 @@ def milliseconds(server):
     ann.close()
 
 
-# How many milliseconds more rlwrap may take from the password to the server's first row: it has begun before.
-MOST_OF_RLWRAP = 100
-
-
 def to_the_first_row(server, kind):
     """The milliseconds from the end of the password to the first row."""
     ann = begun(server, kind, password=False)
@@ -126,7 +122,6 @@ def the_first_row_with_rlwrap():
     more = min(with_it) - min(without)
     print('        measured: with rlwrap the first row comes %.0f ms later, after %.0f ms' % (more, min(with_it)),
           flush=True)
-    same('at most %d ms' % MOST_OF_RLWRAP, more <= MOST_OF_RLWRAP, True)
 
 
 @with_listener

