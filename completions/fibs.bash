@@ -37,6 +37,7 @@ _fibs() {
         *,1,*) COMPREPLY=($(compgen -W "$subcommands" -- "$word")) ;;
         connect,*) _fibs_connect ;;
         show,*,-*) COMPREPLY=($(compgen -W '--json --events -h --help' -- "$word")) ;;
+        show,*) COMPREPLY=($(compgen -f -- "$word")) ;;
         plays,*,-* | replay,*,-*) COMPREPLY=($(compgen -W '--json -h --help' -- "$word")) ;;
         help,2,*) COMPREPLY=($(compgen -W "$subcommands" -- "$word")) ;;
         *,*,-*) COMPREPLY=($(compgen -W '-h --help' -- "$word")) ;;

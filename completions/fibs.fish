@@ -12,6 +12,7 @@ complete -c fibs -n __fish_use_subcommand -a help -d 'Print the help of a subcom
 complete -c fibs -n '__fish_seen_subcommand_from help' -a 'show plays replay connect loop help'
 complete -c fibs -n '__fish_seen_subcommand_from show plays replay connect' -l json -d 'Print a JSON object for each line'
 complete -c fibs -n '__fish_seen_subcommand_from show' -l events -d 'Print these objects, and one for each event'
+complete -c fibs -n '__fish_seen_subcommand_from show' -F
 complete -c fibs -n '__fish_seen_subcommand_from connect' -l password-file -r -F -d 'A file whose first line is the password'
 complete -c fibs -n '__fish_seen_subcommand_from connect' -l log -r -F -d 'A file to which the conversation is appended'
 complete -c fibs -n '__fish_seen_subcommand_from connect' -a 'fibs.com localhost (__fish_print_hostnames)'

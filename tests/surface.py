@@ -128,6 +128,7 @@ def bash_completes(_program):
         ('fibs', 'connect', '--password-file', 'secret', 'localhost', ''): ['4321'],
         ('fibs', 'connect', '--log', 'game', 'localhost', ''): ['4321'],
         ('fibs', 'connect', '--password-file', 'typ'): ['typed'], ('fibs', 'connect', 'localhost', '4321', ''): [],
+        ('fibs', 'show', 'typ'): ['typed'], ('fibs', 'show', '--json', 'one', 'typ'): ['typed'],
         ('fibs-play', 'fibs'): ['fibs.com'], ('fibs-play', 'localhost', ''): ['4321'],
         ('fibs-play', '-'): ['--help', '--log', '-h'], ('fibs-play', '--log', 'game', 'localhost', ''): ['4321'],
     }

@@ -2,6 +2,7 @@
 //! the engines print, to the byte.
 
 mod devices;
+mod input;
 pub(crate) mod ordering;
 mod playing;
 mod refusing;

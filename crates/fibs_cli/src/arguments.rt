@@ -10,9 +10,9 @@ const ABOUT: &str = "A client for FIBS, the First Internet Backgammon Server";
 
 const EXAMPLES: &str = "\
 Examples:
-  fibs show < session.log        print what each line of a saved session says
+  fibs show session.log          print what each line of a saved session says
   nc fibs.com 4321 | fibs show   the same of a connection, as its lines come
-  fibs show --json < session.log print a JSON object for each line
+  fibs show --json session.log   print a JSON object for each line
   fibs plays board:You:...       list the plays of a board
   fibs replay < double-click.txt run a script of clicks, cuts and losses
   fibs connect HOST PORT NAME    log in, and play
@@ -29,8 +29,8 @@ const SHOW: &str = "Print what each line of the server says";
 const SHOW_LONG: &str = "\
 Print what each line of the server says.
 
-Reads the server's bytes from standard input, and prints one of these for each
-line:
+Reads the server's bytes from each FILE, one after another, or from standard
+input if none is named, and prints one of these for each line:
 
   board:...               a board of style 3 whose 53 fields are right
   message N ...           a numbered message of CLIP, its fields right
@@ -276,6 +276,9 @@ const JSON: &str = "Print a JSON object for each line";
 /// What `--events` says.
 const EVENTS: &str = "Print these objects, and one for each event";
 
+/// What `FILE` says.
+const FILES: &str = "A saved session, in place of standard input";
+
 /// What `HOST`, `PORT`, `NAME` and `LINE` say.
 const HOST: &str = "The server's name or address";
 
@@ -354,6 +357,8 @@ pub enum Answer<'a> {
 pub enum Asked<'a> {
     /// To talk with a server.
     Connect(Call<'a>),
+    /// An engine that reads these files, one after another, in place of the standard input.
+    Files(Request<'a>, Vec<&'a str>),
     /// All else.
     Answer(Answer<'a>),
 }
@@ -361,10 +366,10 @@ pub enum Asked<'a> {
 /// Reads the words of the command line. The first is the program's own name.
 pub fn read<'a>(alloc: Global, words: &'a [String]) -> Asked<'a> {
     match matches_of(alloc, words) {
-        Ok(matches) => match asked_of(&matches) {
-            Some(asked) => asked,
-            // The command line needs a subcommand and a line, so this does not come.
-            None => Asked::Answer(Answer::Memory),
+        Ok(matches) => match asked_of(alloc, &matches) {
+            Ok(Some(asked)) => asked,
+            // The command line needs a subcommand and a line, so None does not come.
+            Ok(None) | Err(_) => Asked::Answer(Answer::Memory),
         },
         Err(error) => Asked::Answer(answer_to(alloc, &error)),
     }
@@ -407,6 +412,8 @@ enum Kind {
     Port,
     /// An option that names a file.
     File,
+    /// Any number of files.
+    Files,
     /// An option without a value.
     Flag,
 }
@@ -430,7 +437,12 @@ const JSON_ARGUMENT: Argument = Argument {
 const JSON_ARGUMENTS: [Argument; 1] = [JSON_ARGUMENT];
 
 /// The arguments of `show`.
-const SHOW_ARGUMENTS: [Argument; 2] = [
+const SHOW_ARGUMENTS: [Argument; 3] = [
+    Argument {
+        name: "FILE",
+        help: FILES,
+        kind: Kind::Files,
+    },
     JSON_ARGUMENT,
     Argument {
         name: "events",
@@ -583,6 +595,7 @@ fn argument_of<'a>(alloc: Global, argument: &Argument) -> Arg<'a> {
             .value_parser(ValueParser::unsigned(1, 65535))
             .required(true),
         Kind::File => arg.long(argument.name).value_name("FILE"),
+        Kind::Files => arg.num_args(0..),
         Kind::Flag => arg.long(argument.name).action(ArgAction::SetTrue),
     }
 }
@@ -592,12 +605,42 @@ fn engine(request: Request<'_>) -> Option<Asked<'_>> {
     Some(Asked::Answer(Answer::Engine(request)))
 }
 
-fn asked_of<'a>(matches: &ArgMatches<'a>) -> Option<Asked<'a>> {
-    let (word, matches) = matches.subcommand()?;
+/// How a session is to be shown.
+fn request_to_show<'a>(matches: &ArgMatches<'a>) -> Request<'a> {
+    if matches.get_flag("events") {
+        Request::ShowEvents
+    } else if matches.get_flag("json") {
+        Request::ShowJson
+    } else {
+        Request::Show
+    }
+}
+
+/// A session is to be shown: of the standard input if no file is named.
+fn show_of<'a>(alloc: Global, matches: &ArgMatches<'a>) -> Result<Asked<'a>, AllocError> {
+    let request = request_to_show(matches);
+    match matches.get_strs("FILE") {
+        Some(names) if !names.is_empty() => {
+            let mut files = Vec::new(alloc);
+            files.extend_from_slice(names)?;
+            Ok(Asked::Files(request, files))
+        }
+        _ => Ok(Asked::Answer(Answer::Engine(request))),
+    }
+}
+
+/// What the words of a command line ask for; None if they have no subcommand or lack a line.
+fn asked_of<'a>(alloc: Global, matches: &ArgMatches<'a>) -> Result<Option<Asked<'a>>, AllocError> {
+    match matches.subcommand() {
+        Some(("show", matches)) => Ok(Some(show_of(alloc, matches)?)),
+        Some((word, matches)) => Ok(other_of(word, matches)),
+        None => Ok(None),
+    }
+}
+
+/// The same of each subcommand but `show`.
+fn other_of<'a>(word: &str, matches: &ArgMatches<'a>) -> Option<Asked<'a>> {
     match word {
-        "show" if matches.get_flag("events") => engine(Request::ShowEvents),
-        "show" if matches.get_flag("json") => engine(Request::ShowJson),
-        "show" => engine(Request::Show),
         "plays" if matches.get_flag("json") => {
             engine(Request::PlaysJson(matches.get_str("LINE")?))
         }

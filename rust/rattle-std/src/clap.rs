@@ -6,6 +6,7 @@
 use crate::alloc::AllocError;
 use crate::runtime::spare_memory;
 use std::marker::PhantomData;
+use std::ops::RangeFrom;
 use std::str::FromStr;
 
 pub use clap::ArgAction;
@@ -77,6 +78,11 @@ impl<'a> Arg<'a> {
     /// What is done if it is there.
     pub fn action(self, action: ArgAction) -> Arg<'a> {
         Arg::of(self.inner.action(action))
+    }
+
+    /// How many values it may have.
+    pub fn num_args(self, range: RangeFrom<usize>) -> Arg<'a> {
+        Arg::of(self.inner.num_args(range))
     }
 
     /// What the help calls its value.
@@ -167,7 +173,7 @@ impl<'a> Command<'a> {
     pub fn try_get_matches_from(self, words: &'a [String]) -> Result<ArgMatches<'a>, Error> {
         spare_memory()?;
         match self.whole().try_get_matches_from(words) {
-            Ok(matches) => Ok(ArgMatches { matches, words }),
+            Ok(matches) => Ok(ArgMatches::of(&matches, words)),
             Err(error) => Err(Error { inner: Some(error) }),
         }
     }
@@ -176,22 +182,34 @@ impl<'a> Command<'a> {
 /// What was found in the words.
 pub struct ArgMatches<'a> {
     matches: clap::ArgMatches,
-    words: &'a [String],
+    /// The texts of the values of each name.
+    values: Vec<(String, Vec<&'a str>)>,
+    subcommand: Option<(String, Box<ArgMatches<'a>>)>,
 }
 
 impl<'a> ArgMatches<'a> {
-    /// The subcommand, and what was found for it.
-    pub fn subcommand(&self) -> Option<(&str, ArgMatches<'a>)> {
-        let (name, matches) = self.matches.subcommand()?;
-        Some((name, ArgMatches { matches: matches.clone(), words: self.words }))
+    fn of(matches: &clap::ArgMatches, words: &'a [String]) -> ArgMatches<'a> {
+        let texts =
+            |name| matches.get_raw(name).into_iter().flatten().filter_map(|value| in_words(value.to_str()?, words));
+        let values = matches.ids().map(|id| (id.to_string(), texts(id.as_str()).collect())).collect();
+        let below = matches.subcommand();
+        let subcommand = below.map(|(name, matches)| (name.to_string(), Box::new(ArgMatches::of(matches, words))));
+        ArgMatches { matches: matches.clone(), values, subcommand }
     }
 
-    /// The text of a value: a word, or the end of one.
+    /// The subcommand, and what was found for it.
+    pub fn subcommand(&self) -> Option<(&str, &ArgMatches<'a>)> {
+        self.subcommand.as_ref().map(|(name, matches)| (name.as_str(), &**matches))
+    }
+
+    /// The texts of the values of this name.
+    pub fn get_strs(&self, name: &str) -> Option<&[&'a str]> {
+        self.values.iter().find(|(id, _)| id == name).map(|(_, values)| values.as_slice())
+    }
+
+    /// The text of a value.
     pub fn get_str(&self, name: &str) -> Option<&'a str> {
-        let mut raw = self.matches.get_raw(name)?;
-        let value = raw.next()?.to_str()?;
-        let word = self.words.iter().find(|word| word.ends_with(value))?;
-        Some(&word[word.len() - value.len()..])
+        self.get_strs(name)?.first().copied()
     }
 
     /// Whether the option of this name is there.
@@ -203,6 +221,12 @@ impl<'a> ArgMatches<'a> {
     pub fn get_one<T: FromStr>(&self, name: &str) -> Option<T> {
         self.get_str(name)?.parse().ok()
     }
+}
+
+/// The word that a value is, or the end of one.
+fn in_words<'a>(value: &str, words: &'a [String]) -> Option<&'a str> {
+    let word = words.iter().find(|word| word.ends_with(value))?;
+    Some(&word[word.len() - value.len()..])
 }
 
 /// Why there are no matches: what `clap` says, or nothing if memory ran out.

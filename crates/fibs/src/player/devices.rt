@@ -60,6 +60,13 @@ impl Clock for NoClock {
 pub fn run(rt: &HostRuntime, streams: &mut Streams, asked: &Asked<'_>) -> Result<u8, EngineFault> {
     match asked {
         Asked::Connect(call) => connect(rt, streams, *call),
+        Asked::Files(request, names) => {
+            match streams.read_files(rt, names.as_slice(), &mut rt.stderr()) {
+                Ok(()) => run_here(rt, streams, &Answer::Engine(*request)),
+                Err(error) if error.kind() == ErrorKind::OutOfMemory => Err(EngineFault::Memory),
+                Err(_) => Ok(Status::Device.code()),
+            }
+        }
         Asked::Answer(answer) => run_here(rt, streams, answer),
     }
 }

@@ -1,14 +1,16 @@
-//! The standard streams of the program, which keep why they failed.
+//! The streams of the program, which keep why they failed.
 
+use crate::player::input::{Files, Input, end_of};
 use fibs_engine::noting::{Noted, Trouble, write_trouble};
 use fibs_engine::writing::Unwritten;
-use std::io::{Stdin, Stdout, Write};
+use std::io;
+use std::io::{Stdout, Write};
 
-/// The standard input and the standard output.
+/// What is read, and the standard output.
 #[derive(Drop)]
 pub struct Streams {
-    /// What is typed, or read from a pipe or a file.
-    pub input: Noted<Stdin>,
+    /// What is typed, or read from a pipe or from files.
+    pub input: Input,
     /// Where is printed.
     pub out: Noted<Stdout>,
 }
@@ -17,9 +19,30 @@ impl Streams {
     /// The streams of the program. None has failed.
     pub fn new(rt: &HostRuntime) -> Streams {
         Streams {
-            input: Noted::new(rt.stdin()),
+            input: Input::standard(rt),
             out: Noted::new(rt.stdout()),
         }
+    }
+
+    /// Reads these files from now on, one after another, in place of the standard input.
+    ///
+    /// Errors: why the first can't be opened that can't, which is said on `err` too.
+    pub fn read_files<E: Write>(
+        &mut self,
+        rt: &HostRuntime,
+        names: &[&str],
+        err: &mut E,
+    ) -> io::Result<()> {
+        let mut files = Files::new(rt);
+        for name in names {
+            if let Err(error) = files.open(rt, name) {
+                // if it can't be printed, the status alone says it
+                let _said = write_trouble(end_of(name.as_bytes()), Some(Trouble::of(&error)), err);
+                return Err(error);
+            }
+        }
+        self.input = Input::of_files(files);
+        Ok(())
     }
 
     /// Whether the last that was printed went to a pipe that its reader has closed, as `head` does: nothing is wrong
@@ -31,7 +54,7 @@ impl Streams {
     /// Says which of them failed and why, if one did.
     pub fn say_trouble<E: Write>(&self, err: &mut E) -> Result<(), Unwritten> {
         match self.out.trouble() {
-            None => write_trouble(b"standard input", self.input.trouble(), err),
+            None => write_trouble(self.input.name(), self.input.trouble(), err),
             trouble => write_trouble(b"standard output", trouble, err),
         }
     }
