@@ -1,21 +1,14 @@
-//! Plays a match of one point, goes on with it after each lost connection, and leaves: bot HOST:PORT NAME OPPONENT
-//!
-//! It compares no text of the server: `Events` says what has happened.
+//! Plays a match of three points by its first legal plays, over lost connections too, and leaves: bot HOST PORT NAME
+//! OPPONENT, with the password on standard input. It compares no text of the server: `Events` says what has happened.
 
-use fibs::{
-    Client, Decision, Event, Events, Heard, Login, Message, OwnedHeard, Phase, Plain, Position, Reading, Refusal, Side,
-};
-use std::error::Error;
-use std::io::Read;
-use std::net::TcpStream;
-
-/// How often it connects.
-const MOST_CONNECTIONS: usize = 1000;
+use fibs::{Client, Decision, Event, Events, Heard, Login, Message, OwnedHeard, Phase, Plain, Position, Reading, Side};
+use std::{error::Error, io::Read, net::TcpStream};
 
 struct Bot {
     client: Client,
     events: Events,
     opponent: String,
+    has_begun: bool,
     is_over: bool,
 }
 
@@ -27,69 +20,61 @@ impl Bot {
             // without points: a match that was saved goes on
             self.client.plain(&Plain::Invite(self.opponent.as_bytes(), None))?;
         }
-        for event in self.events.hear(&reading)? {
+        for event in self.events.hear(&reading)?.inspect(|event| println!("{event:?}")) {
             match event {
-                Event::NothingSaved { .. } => self.client.plain(&Plain::Invite(self.opponent.as_bytes(), Some(1)))?,
+                Event::NothingSaved { .. } if self.has_begun => self.is_over = true, // its end was not seen
+                Event::NothingSaved { .. } => self.client.plain(&Plain::Invite(self.opponent.as_bytes(), Some(3)))?,
                 Event::OfferedToResign { who: Side::Other, .. } => self.client.own_line(b"accept")?,
                 Event::NextGame => self.client.plain(&Plain::Join(None))?,
-                Event::MatchOver { winner, score, .. } => {
-                    println!("over: {winner:?} has won, {} to {}", score[0], score[1]);
-                    self.is_over = true;
-                }
-                other => println!("{other:?}"),
+                Event::MatchOver { .. } => self.is_over = true,
+                _ => {}
             }
         }
         if matches!(reading, Reading::Board(_)) && !self.is_over { self.decide() } else { Ok(()) }
     }
 
-    /// Decides on the board that is shown, if the bot is to.
+    /// Decides on the board that is shown. A server shows some boards twice: then a decision may wait.
     fn decide(&mut self) -> Result<(), Box<dyn Error>> {
-        let Some(Ok(position)) = self.client.shown().map(Position::try_from) else { return Ok(()) };
+        let shown = self.client.shown().map(Position::try_from);
+        let (Some(Ok(position)), None) = (shown, self.client.waiting()) else { return Ok(()) };
+        self.has_begun = true;
         let decision = match position.phase() {
             Phase::RollOrDouble => Decision::Roll,
             Phase::AnswerDouble => Decision::Accept,
             Phase::Move => Decision::Move(position.plays()?[0]),
             _ => return Ok(()),
         };
-        match self.client.decide(&decision) {
-            Err(Refusal::Waiting) => Ok(()), // the server shows some boards twice
-            answer => Ok(answer?),
-        }
+        Ok(self.client.decide(&decision)?)
     }
 
     /// Plays until the match is over, or the connection.
     fn converse(&mut self, mut stream: TcpStream) -> Result<(), Box<dyn Error>> {
         self.client.open()?;
-        let mut room = [0; 4096];
-        while !self.is_over {
-            // if either fails the connection is lost
-            let sent = self.client.write_to(&stream);
-            let got = sent.and_then(|()| stream.read(&mut room)).unwrap_or(0);
+        let (mut room, mut got) = ([0; 4096], 1);
+        while !self.is_over && got > 0 {
+            got = self.client.write_to(&stream).and_then(|()| stream.read(&mut room)).unwrap_or(0);
             let mut piece = &room[..got];
             while let Some(heard) = self.client.hear(&mut piece).map(Heard::into_owned) {
                 self.answer(&heard)?;
             }
-            if got == 0 {
-                return Ok(());
-            }
         }
-        self.client.plain(&Plain::Bye)?;
-        let _left = self.client.write_to(&stream);
+        if self.is_over {
+            self.client.plain(&Plain::Bye)?;
+            self.client.write_to(&stream)?;
+        }
         Ok(())
     }
 }
 
 fn main() -> Result<(), Box<dyn Error>> {
     let words: Vec<String> = std::env::args().skip(1).collect();
-    let [address, name, opponent] = &words[..] else { return Err("bot HOST:PORT NAME OPPONENT".into()) };
-    let client = Client::new(Login::new(name.as_bytes(), b"secret")?);
-    let mut bot = Bot { client, events: Events::new(), opponent: opponent.clone(), is_over: false };
-    for _ in 0..MOST_CONNECTIONS {
-        bot.converse(TcpStream::connect(address)?)?;
-        if bot.is_over {
-            return Ok(());
-        }
+    let [host, port, name, opponent] = &words[..] else { return Err("bot HOST PORT NAME OPPONENT".into()) };
+    let password = std::io::stdin().lines().next().ok_or("no password")??;
+    let client = Client::new(Login::new(name.as_bytes(), password.as_bytes())?);
+    let mut bot = Bot { client, events: Events::new(), opponent: opponent.clone(), has_begun: false, is_over: false };
+    while !bot.is_over {
+        bot.converse(TcpStream::connect(format!("{host}:{port}"))?)?;
         println!("lost: {:?}", bot.client.lose().map(|lost| lost.decision));
     }
-    Err("the connection was lost too often".into())
+    Ok(())
 }
