@@ -7,6 +7,7 @@ use Rattle.fibs_events.specs.Played.{IsPlayed, NoneIsPlayed}
 use Rattle.fibs_events.specs.declared.event.Side.{Side}
 use Rattle.fibs_events.specs.declared.event.Side.TheVariants as S
 use Rattle.fibs_events.specs.declared.happened.Happened.{Happened}
+use Rattle.fibs_events.specs.declared.happened.Rolled.{Rolled}
 use Rattle.fibs_position.specs.GoodBoard.{good}
 use Rattle.fibs_position.specs.Phases.{phase_of}
 use Rattle.fibs_position.specs.PositionValue.{position_of}
@@ -55,6 +56,10 @@ LegalFrom (Some b) side steps = LegalPlay (position_of (seen_by side b)).standin
 abbrev pub dice_of : Side → BoardFields → List ℕ
 dice_of S.Own b = natural (field_of b 34) ∷ natural (field_of b 35) ∷ []
 dice_of S.Other b = natural (field_of b 36) ∷ natural (field_of b 37) ∷ []
+
+-- a roll is what a board shows: the dice of the side that has rolled there and not played
+abbrev pub RollShown : BoardFields → Rolled → Type 0
+RollShown b rolled = (roller_of b ≡ Some rolled.who) × (rolled.dice ≡ dice_of rolled.who b)
 
 -- nothing has happened
 abbrev pub nothing : Happened

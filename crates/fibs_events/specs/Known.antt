@@ -1,11 +1,12 @@
 -- What events remember (the project's own).
-use Rattle.std.specs.Prelude.{List, Option, option_map}
+use Rattle.std.specs.Prelude.{List, Option, option_map, ⊤}
 use Rattle.fibs_fields.specs.Board.{BoardFields}
 use Rattle.fibs_position.specs.GameOf.{game_of}
 use Rattle.fibs_messages.specs.Line.{ReadingValue, numbered_line, board_line, text_line, malformed_line}
 use Rattle.fibs_rules.specs.Hop.{Hop}
-use Rattle.fibs_events.specs.Happenings.{LegalFrom, PlayedFrom}
+use Rattle.fibs_events.specs.Happenings.{LegalFrom, PlayedFrom, RollShown}
 use Rattle.fibs_events.specs.declared.event.Side.{Side}
+use Rattle.fibs_events.specs.declared.happened.Rolled.{Rolled}
 use Rattle.fibs_events.specs.declared.memory.Events.{Events}
 
 -- the board of the user's game that is known: the one that came last, with what texts have added to it
@@ -18,3 +19,10 @@ IsHeard known (board_line b) side steps = PlayedFrom known side steps b
 IsHeard known (text_line t) side steps = LegalFrom known side steps
 IsHeard known (numbered_line m) side steps = ⊥
 IsHeard known (malformed_line n k f) side steps = ⊥
+
+-- a roll that is reported at a line: of a board, what it shows; of a text, which says it; of no other line
+abbrev pub IsRollHeard : ReadingValue → Rolled → Type 0
+IsRollHeard (board_line b) rolled = RollShown b rolled
+IsRollHeard (text_line t) rolled = ⊤
+IsRollHeard (numbered_line m) rolled = ⊥
+IsRollHeard (malformed_line n k f) rolled = ⊥

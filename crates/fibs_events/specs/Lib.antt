@@ -1,5 +1,7 @@
--- What the server has shown: which play leads from one board to another, and what has happened between them.
+-- What the server has shown: which play leads from one board to another, and what has happened between them; what it
+-- says of the login.
 pub mod Mirrored
 pub mod Played
 pub mod Happenings
 pub mod Known
+pub mod Asking

@@ -6,7 +6,7 @@ ghost use Rattle.fibs_position.specs.GameOf.{game_of};
 ghost use Rattle.fibs_position.specs.GamePart.{same_game};
 ghost use Rattle.fibs_position.specs.GoodBoard.{good};
 ghost use Rattle.fibs_rules.specs.PlayValue.{hops_of};
-ghost use Rattle.fibs_events.specs.Happenings.{PlayedFrom, PlayedBy, dice_of, nothing};
+ghost use Rattle.fibs_events.specs.Happenings.{PlayedFrom, PlayedBy, RollShown, nothing};
 ghost use Rattle.fibs_events.specs.Known.{known_of};
 
 use crate::event::Side;
@@ -21,7 +21,7 @@ use std::alloc::{AllocError, Global};
 
 /// The roll that a board shows of the side whose turn it is.
 fn roll_on(game: &GameBoard) -> Option<Rolled>
-    ensures { IfSome result (λ rolled. rolled.dice ≡ dice_of rolled.who (game_of game.now)) }
+    ensures { IfSome result (λ rolled. RollShown (game_of game.now) rolled) }
 {
     let who = roller_of(game)?;
     Some(Rolled {
@@ -58,7 +58,7 @@ impl Events {
 
     /// The roll that a board shows, if it was not reported yet.
     fn note_roll(&mut self, game: &GameBoard) -> Option<Rolled>
-        ensures { IfSome result (λ rolled. rolled.dice ≡ dice_of rolled.who (game_of game.now)) }
+        ensures { IfSome result (λ rolled. RollShown (game_of game.now) rolled) }
     {
         match roll_on(game) {
             None => {
@@ -81,7 +81,7 @@ impl Events {
     /// What a board shows of a match or a game of which none is known.
     fn hear_first<'a>(&mut self, game: &GameBoard) -> Happened<'a>
         ensures played { result.played ≡ None }
-        ensures rolled { IfSome result.rolled (λ rolled. rolled.dice ≡ dice_of rolled.who (game_of game.now)) }
+        ensures rolled { IfSome result.rolled (λ rolled. RollShown (game_of game.now) rolled) }
     {
         let mut happened = Happened::nothing();
         happened.doubled = self.note_double(game);
@@ -111,7 +111,7 @@ impl Events {
     /// What the first board of the next game shows.
     fn hear_next_game<'a>(&mut self, before: &GameBoard, game: &GameBoard) -> Happened<'a>
         ensures played { result.played ≡ None }
-        ensures rolled { IfSome result.rolled (λ rolled. rolled.dice ≡ dice_of rolled.who (game_of game.now)) }
+        ensures rolled { IfSome result.rolled (λ rolled. RollShown (game_of game.now) rolled) }
     {
         let won = self.note_end(before, game);
         self.game = Game::new();
@@ -152,7 +152,7 @@ impl Events {
         played: Option<Turned>,
     ) -> Happened<'a>
         ensures played { result.played ≡ played }
-        ensures rolled { IfSome result.rolled (λ rolled. rolled.dice ≡ dice_of rolled.who (game_of game.now)) }
+        ensures rolled { IfSome result.rolled (λ rolled. RollShown (game_of game.now) rolled) }
     {
         self.note_play(&played);
         let mut happened = Happened::nothing();
@@ -176,7 +176,7 @@ impl Events {
         ensures played { IfOk result (λ happened. IfSome happened.played (λ turned.
             PlayedBy turned.who (game_of before.now) (hops_of turned.play) (game_of game.now))) }
         ensures rolled { IfOk result (λ happened.
-            IfSome happened.rolled (λ rolled. rolled.dice ≡ dice_of rolled.who (game_of game.now))) }
+            IfSome happened.rolled (λ rolled. RollShown (game_of game.now) rolled)) }
     {
         if is_next_game(before, game, self.game.is_over) {
             return Ok(self.hear_next_game(before, game));
@@ -190,7 +190,7 @@ impl Events {
         ensures played { IfOk result (λ happened. IfSome happened.played (λ turned.
             PlayedFrom (known_of self.old) turned.who (hops_of turned.play) (game_of game.now))) }
         ensures rolled { IfOk result (λ happened.
-            IfSome happened.rolled (λ rolled. rolled.dice ≡ dice_of rolled.who (game_of game.now))) }
+            IfSome happened.rolled (λ rolled. RollShown (game_of game.now) rolled)) }
         ensures repeated { IfSome (known_of self.old) (λ b.
             same_game b (game_of game.now) ≡ true → result ≡ Ok nothing) }
     {
@@ -209,8 +209,8 @@ impl Events {
     }
 
     /// What a board shows. A play is one of the side that had rolled, and leads to this board from the one that is
-    /// known; a roll is what the board shows. The board that is known, shown again, shows nothing, and neither does one
-    /// on which the user does not play.
+    /// known; a roll is what the board shows of the side that has rolled there. The board that is known, shown again,
+    /// shows nothing, and neither does one on which the user does not play.
     ///
     /// Errors: if memory runs out; then the board is not taken note of.
     pub(crate) fn hear_board<'a>(
@@ -221,7 +221,7 @@ impl Events {
         ensures played { IfOk result (λ happened. IfSome happened.played (λ turned.
             PlayedFrom (known_of self.old) turned.who (hops_of turned.play) (fields_of board.now))) }
         ensures rolled { IfOk result (λ happened.
-            IfSome happened.rolled (λ rolled. rolled.dice ≡ dice_of rolled.who (fields_of board.now))) }
+            IfSome happened.rolled (λ rolled. RollShown (fields_of board.now) rolled)) }
         ensures repeated { IfSome (known_of self.old) (λ b.
             same_game b (fields_of board.now) ≡ true → result ≡ Ok nothing) }
         ensures known { good (fields_of board.now) ≡ true →

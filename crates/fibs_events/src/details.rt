@@ -67,6 +67,21 @@ pub(crate) fn first_number(text: &[u8]) -> Option<u32> {
     None
 }
 
+/// How many points a game is given up for: the text begins with them, or has them after the word `win`, and the name
+/// before that may be a number.
+pub(crate) fn points_in(text: &[u8]) -> Option<u32> {
+    let mut is_next = true;
+    for word in text.split(|byte| *byte == b' ') {
+        if is_next {
+            if let Some(points) = number(word) {
+                return Some(points);
+            }
+        }
+        is_next = word == b"win".as_slice();
+    }
+    None
+}
+
 /// To how many points a match is, by the word after `a` or `an`.
 fn length(word: &[u8]) -> Option<Length> {
     if word == b"unlimited".as_slice() {

@@ -38,6 +38,8 @@ pub enum Event<'a> {
         /// The user.
         name: Name<'a>,
     },
+    /// The server has refused the login: it asks for it once more.
+    LoginRefused,
     /// A player invites the user to a new match.
     Invited {
         /// Who invites.
@@ -109,7 +111,7 @@ pub enum Event<'a> {
         who: Side,
         /// For how many points.
         points: u32,
-        /// What that is, if the cube is known.
+        /// What that is, if they are one, two or three times the cube of the board that is known.
         worth: Option<Stake>,
     },
     /// A side has declined that the other gives up.
@@ -123,7 +125,7 @@ pub enum Event<'a> {
         winner: Side,
         /// How many points.
         points: u32,
-        /// What that is, if the cube is known.
+        /// What that is, if they are one, two or three times the cube of the board that is known.
         worth: Option<Stake>,
     },
     /// The next game of the match waits for `join`.

@@ -1,12 +1,14 @@
 //! What a client's or a saved session's lines say has happened. Boards decide before texts: a play is one that leads
 //! from the board that is known to the next, or that a text names and the rules allow on it.
 
-ghost use Rattle.std.specs.Prelude.{◌≡◌, IfOk, IfSome, OnOk, Some, true};
+ghost use Rattle.std.specs.Prelude.{◌≡◌, IfOk, IfSome, OnOk, Some, Ok, true, false};
 ghost use Rattle.fibs_fields.specs.Board.{BoardFields};
+ghost use Rattle.fibs_position.specs.GamePart.{same_game};
 ghost use Rattle.fibs_position.specs.GoodBoard.{good};
 ghost use Rattle.fibs_messages.specs.Line.{board_line, reading_of};
 ghost use Rattle.fibs_rules.specs.PlayValue.{hops_of};
-ghost use Rattle.fibs_events.specs.Known.{IsHeard, known_of};
+ghost use Rattle.fibs_events.specs.Happenings.{nothing};
+ghost use Rattle.fibs_events.specs.Known.{IsHeard, IsRollHeard, known_of};
 
 use crate::happened::Happened;
 use crate::memory::Events;
@@ -24,6 +26,12 @@ impl Events {
     ) -> Result<Happened<'a>, AllocError>
         ensures played { IfOk result (λ happened. IfSome happened.played (λ turned.
             IsHeard (known_of self.old) (reading_of reading.now) turned.who (hops_of turned.play))) }
+        ensures rolled { IfOk result (λ happened. IfSome happened.rolled (λ rolled.
+            IsRollHeard (reading_of reading.now) rolled)) }
+        ensures repeated { (before b : BoardFields) → known_of self.old ≡ Some before
+            → (reading_of reading.now ≡ board_line b) → same_game before b ≡ true → result ≡ Ok nothing }
+        ensures others { (b : BoardFields) → (reading_of reading.now ≡ board_line b) → good b ≡ false →
+            (self.new ≡ self.old) × (result ≡ Ok nothing) }
         ensures known { (b : BoardFields) → (reading_of reading.now ≡ board_line b) → good b ≡ true →
             OnOk result (known_of self.new ≡ Some b) }
     {

@@ -31,7 +31,7 @@ pub struct Won {
     pub winner: Side,
     /// How many points.
     pub points: u32,
-    /// What that is, if the cube is known.
+    /// What that is, if they are one, two or three times the cube of the board that is known.
     pub worth: Option<Stake>,
 }
 
@@ -100,7 +100,8 @@ impl<'a> Happened<'a> {
 
     /// What was said has happened, and nothing else.
     pub(crate) fn of_said(said: Option<Event<'a>>) -> Happened<'a>
-        ensures { result.played ≡ None }
+        ensures played { result.played ≡ None }
+        ensures rolled { result.rolled ≡ None }
     {
         let mut happened = Happened::nothing();
         happened.said = said;

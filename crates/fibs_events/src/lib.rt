@@ -1,6 +1,7 @@
 //! What the server's lines say has happened: events, of boards and of texts.
 #![tactic(auto)]
 
+pub mod asking;
 mod boards;
 mod details;
 pub mod event;

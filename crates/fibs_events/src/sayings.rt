@@ -1,6 +1,6 @@
 //! What texts and messages say of matches, invitations, answers and ratings.
 
-use crate::details::{first_number, length_in};
+use crate::details::{length_in, points_in};
 use crate::event::{Event, Length, Offer, Side};
 use crate::memory::{Events, Game, Invitation, Rating, Resignation, Stage, kept};
 use crate::scores::worth;
@@ -52,7 +52,7 @@ impl Events {
         Some(Event::GameBegun { name })
     }
 
-    /// That a match was left. Nothing is known of an invitation or of who waits then.
+    /// That the user or his opponent has left the match. It is told once, until something else is heard of a match.
     fn hear_left<'a>(&mut self, report: &Report<'a>) -> Option<Event<'a>> {
         let who = self.side_of(report.name)?;
         if self.note_stage(Stage::Left) {
@@ -115,7 +115,7 @@ impl Events {
     /// An offer to give up the game.
     fn hear_resigning<'a>(&mut self, report: &Report<'a>) -> Option<Event<'a>> {
         let who = self.side_of(report.name)?;
-        let points = first_number(report.rest)?;
+        let points = points_in(report.rest)?;
         let offer = Some(Resignation { who, points });
         if self.game.resignation == offer {
             return None;

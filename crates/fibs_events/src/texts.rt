@@ -151,7 +151,7 @@ impl Events {
             return None;
         }
         self.game.doubled = None;
-        self.known = with_cube_doubled(&self.known?);
+        self.known = self.known.as_ref().and_then(with_cube_doubled);
         let mut happened = Happened::nothing();
         happened.accepted = Some(who);
         Some(happened)
