@@ -44,6 +44,7 @@ worth_json (Some stake) = string (stake_word stake)
 -- the name of an event
 abbrev pub event_name : Event → List ℕ
 event_name (E.LoggedIn name) = codes "logged_in"
+event_name E.LoginRefused = codes "login_refused"
 event_name (E.Invited name length) = codes "invited"
 event_name (E.InvitedToResume name) = codes "invited_to_resume"
 event_name (E.Joined name length) = codes "joined"
@@ -69,6 +70,7 @@ event_name (E.Refused text) = codes "refused"
 -- the further members of the object of an event, each after a comma
 abbrev pub details : Event → List ℕ
 details (E.LoggedIn name) = more_members (member (codes "name") (string (name_bytes name)) ∷ [])
+details E.LoginRefused = []
 details (E.Invited name length) =
     more_members (member (codes "name") (string (name_bytes name)) ∷ member (codes "length") (length_json length) ∷ [])
 details (E.InvitedToResume name) = more_members (member (codes "name") (string (name_bytes name)) ∷ [])

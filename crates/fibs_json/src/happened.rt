@@ -172,6 +172,7 @@ fn name_of(event: &Event<'_>) -> &'static [u8]
 {
     match event {
         Event::LoggedIn { .. } => b"logged_in",
+        Event::LoginRefused => b"login_refused",
         Event::Invited { .. } => b"invited",
         Event::InvitedToResume { .. } => b"invited_to_resume",
         Event::Joined { .. } => b"joined",
@@ -233,7 +234,7 @@ fn append_details(event: &Event<'_>, text: &mut Vec<u8>) -> Result<(), AllocErro
             rating,
             experience,
         } => append_rated(*who, *rating, *experience, text),
-        Event::NextGame | Event::NotPlaying => Ok(()),
+        Event::LoginRefused | Event::NextGame | Event::NotPlaying => Ok(()),
         Event::Refused { text: said } => append_string(b"text", said, text),
     }
 }
