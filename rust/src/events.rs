@@ -2,6 +2,7 @@
 
 use crate::Reading;
 use crate::fibs_events;
+use crate::fibs_events::asking::Asking;
 use crate::fibs_events::event::Event;
 use crate::rattle::alloc::AllocError;
 use std::iter::FusedIterator;
@@ -9,7 +10,8 @@ use std::iter::FusedIterator;
 /// What the lines of a client or of a saved session say has happened, as values: who has rolled what, which play was
 /// made, who has won. Boards decide before texts, and nothing is told twice for a board or a text that comes again.
 ///
-/// Hear each reading once, in order, over connections too; leave out lines that were cut.
+/// Hear each reading once, in order, over connections too; leave out lines that were cut. That a login is refused no
+/// line says: [`hear_bytes`](Events::hear_bytes) does.
 ///
 /// ```
 /// use fibs::{Event, Events, Side, read};
@@ -32,11 +34,14 @@ pub struct Events {
     events: Box<Remembered>,
 }
 
-struct Remembered(fibs_events::Events);
+struct Remembered {
+    lines: fibs_events::Events,
+    login: Asking,
+}
 
 impl Default for Remembered {
     fn default() -> Remembered {
-        Remembered(fibs_events::Events::new())
+        Remembered { lines: fibs_events::Events::new(), login: Asking::new() }
     }
 }
 
@@ -46,18 +51,38 @@ impl Events {
         Events::default()
     }
 
+    /// A connection is opened: the server asks for the login anew. The first one need not be told.
+    pub fn open(&mut self) {
+        self.events.login = Asking::new();
+    }
+
+    /// What bytes of the server say that no line does: [`Event::LoginRefused`], once of each question for the login that
+    /// comes again before the server has greeted the user. Give it all bytes of a connection, in whatever pieces; their
+    /// lines go to [`hear`](Events::hear) besides.
+    ///
+    /// ```
+    /// let mut events = fibs::Events::new();
+    /// assert!(events.hear_bytes(b"Welcome to FIBS.\r\nlogin: ").next().is_none());
+    /// assert_eq!(events.hear_bytes(b"\r\nlogin: ").next(), Some(fibs::Event::LoginRefused));
+    /// ```
+    pub fn hear_bytes(&mut self, bytes: &[u8]) -> Happened<'static> {
+        let mut events = [None; fibs_events::happened::MOST_EVENTS];
+        events[0] = self.events.login.hear(bytes);
+        Happened { events, next: 0 }
+    }
+
     /// What a line says has happened, in order.
     ///
     /// # Errors
     /// If memory runs out; then the line is not taken note of.
     pub fn hear<'a>(&mut self, reading: &Reading<'a>) -> Result<Happened<'a>, AllocError> {
-        let happened = self.events.0.hear(reading)?;
+        let happened = self.events.lines.hear(reading)?;
         Ok(Happened { events: happened.events(), next: 0 })
     }
 
     /// The opponent of the match that is played, or was played last; empty if none is known.
     pub fn opponent(&self) -> &[u8] {
-        self.events.0.opponent()
+        self.events.lines.opponent()
     }
 }
 

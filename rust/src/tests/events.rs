@@ -52,6 +52,7 @@ fn worth(worth: Option<Stake>) -> &'static str {
 fn words(event: &Event<'_>) -> String {
     match event {
         Event::LoggedIn { name } => format!("logged in {name}"),
+        Event::LoginRefused => "login refused".into(),
         Event::Invited { name, length: to } => format!("invited by {name} to {}", length(*to)),
         Event::InvitedToResume { name } => format!("invited by {name} to resume"),
         Event::Joined { name, length: to } => format!("joined {name} to {}", length(*to)),
@@ -196,8 +197,31 @@ fn each_line_says_what_has_happened() {
             &["eve doubled", "ann rejected", "eve won 1 single"],
         ),
         (&[TO_ROLL, "eve accepts the double. The cube shows 2.", "eve gives up. You win 1 point."], &[]),
+        (
+            &[
+                JOINED,
+                "You double. Please wait for eve to accept or reject.",
+                "eve accepts the double. The cube shows 2.",
+                "eve accepts the double. The cube shows 2.",
+            ],
+            &["joined eve to 3", "ann doubled", "eve accepted the double"],
+        ),
         // resignations
         (&[TO_ROLL, "You want to resign. eve will win 2 points."], &["ann resigns 2 gammon"]),
+        (
+            &[
+                "** Player 99 has joined you for a 7 point match.",
+                "You want to resign. 99 will win 1 point.",
+                "99 rejects. The game continues.",
+                "99 wants to resign. You will win 2 points. Type 'accept' or 'reject'.",
+                "You accept and win 2 points.",
+                "You win the game and get 2 points. Congratulations!",
+            ],
+            &[
+                "joined 99 to 7", "ann resigns 1 ?", "eve declined", "eve resigns 2 ?", "ann accepted the resignation",
+                "ann won 2 ?",
+            ],
+        ),
         (
             &[
                 TO_ROLL,
@@ -337,6 +361,56 @@ fn each_line_says_what_has_happened() {
     for (lines, wanted) in rows {
         assert_eq!(heard(lines.iter().copied()), *wanted, "{lines:?}");
     }
+}
+
+/// How often bytes that come in pieces of this size say that the login was refused.
+fn refusals(events: &mut Events, bytes: &[u8], size: usize) -> usize {
+    bytes.chunks(size).map(|piece| events.hear_bytes(piece).filter(|event| *event == Event::LoginRefused).count()).sum()
+}
+
+#[test]
+fn a_question_that_comes_again_says_that_the_login_was_refused() {
+    let rows: &[(&str, usize)] = &[
+        ("", 0),
+        ("login: ", 0),
+        ("login: \r\n", 0),
+        ("login: \r\nlogin:", 0),
+        ("login: \r\nlogin: ", 1),
+        ("login: \nlogin: ", 1),
+        ("FIBS\r\nlogin: \r\n** User not known or wrong password.\r\nlogin: ", 1),
+        // a text that has the question in it, before it or behind it
+        ("Type guest at login: \r\nlogin: ", 0),
+        ("login: guest\r\nlogin: ", 0),
+        ("login: \r\nlogin: guest", 0),
+        ("login: \r\n login: ", 0),
+        // the user was greeted
+        ("login: 1 ann 1041253132 localhost\r\nlogin: ", 0),
+        ("login: \r\n1 ann 1041253132 localhost\r\nlogin: ", 0),
+        ("login: \r\nlogin: 1 ann 1041253132 localhost\r\nlogin: \r\nlogin: ", 0),
+        ("login: \r\n1998 players\r\nlogin: ", 1),
+    ];
+    for (bytes, wanted) in rows {
+        assert_eq!(refusals(&mut Events::new(), bytes.as_bytes(), 100), *wanted, "{bytes:?}");
+        let is_told_within = bytes.contains("\nlogin: 1") || bytes.contains("\nlogin: guest");
+        for size in if is_told_within { 100..100 } else { 1..9 } {
+            assert_eq!(refusals(&mut Events::new(), bytes.as_bytes(), size), *wanted, "{bytes:?} in pieces of {size}");
+        }
+    }
+}
+
+#[test]
+fn each_question_is_told_once_on_each_connection() {
+    let mut events = Events::new();
+    assert_eq!(refusals(&mut events, b"login: \r\nlogin: ", 100), 1);
+    for (piece, wanted) in [("", 0), ("\r", 0), ("\n", 0), ("login: ", 1), ("\r\nlogin: ", 1)] {
+        assert_eq!(refusals(&mut events, piece.as_bytes(), 100), wanted, "{piece:?}");
+    }
+    events.open();
+    assert_eq!(refusals(&mut events, b"login: ", 100), 0);
+    assert_eq!(refusals(&mut events, b"\r\nlogin: ", 3), 1);
+    // what lines say is another matter
+    assert_eq!(events.hear(&read(LOGGED_IN.as_bytes())).unwrap().count(), 1);
+    assert_eq!(refusals(&mut events, b"\r\nlogin: ", 3), 1);
 }
 
 /// A match of three points to its end, as the examples' server told it to one of two players.
