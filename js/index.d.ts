@@ -204,10 +204,12 @@ export type Event =
   | { event: 'played'; who: Side; steps: Pair[] }
   | { event: 'cannotMove' | 'doubled' | 'rejected' | 'declined' | 'left'; who: Side }
   | { event: 'accepted'; who: Side; offer: 'double' | 'resignation' }
-  /** `worth` is null if no board has shown the cube. */
+  /** `worth` is null if no board of the game is known, or the points are not one, two or three times its cube. */
   | { event: 'offeredToResign' | 'gameOver'; who: Side; points: number; worth: Worth }
   /** The score of the player, and of the opponent. */
   | { event: 'matchOver'; who: Side; length: number; score: Pair }
+  /** The server has refused the login: it asks for it once more. */
+  | { event: 'loginRefused' }
   | { event: 'nextGame' | 'notPlaying' }
   | { event: 'ratingChanged'; who: Side; rating: number; experience: number }
   | { event: 'refused'; text: string };
@@ -216,6 +218,10 @@ export type Event =
 export class Events {
   /** What a line says; hear each once, in order, over connections too, but none that was cut. */
   hear(line: Bytes): Event[];
+  /** What no line says: that the login was refused. Give it all that comes, in whatever pieces. */
+  hearBytes(piece: Bytes): Event[];
+  /** A connection is opened, on which the server asks for the login anew. The first one need not be told. */
+  open(): void;
   /** The opponent of the match that is played, or was last; empty if none is known. */
   get opponent(): string;
   close(): void;

@@ -20,7 +20,7 @@ const LIVING = 64;
 const [GIVE, NEXT, UNFINISHED] = [0, 1, 2];
 const [RESET] = [3];
 const [NOTE, GET, PLAYERS, CLEAR] = [0, 1, 2, 3];
-const [HEAR, OPPONENT] = [0, 1];
+const [HEAR, OPPONENT, HEAR_BYTES, BEGIN] = [0, 1, 2, 3];
 const [FILES] = [1];
 const [OPEN, DECIDE, PLAIN, ORDER, WITHDRAW, LOSE, SHOWN] = [3, 4, 5, 6, 7, 8, 9];
 const [WAITING, ORDERED, LISTED, OWN_LINE, UNGUARDED, REFUSAL, STATE] = [10, 11, 12, 13, 14, 15, 16];
@@ -271,6 +271,16 @@ class Events {
   #kept = new Kept('new_events', []);
 
   hear(line) { return this.#kept.call(HEAR, short(line)); }
+
+  hearBytes(piece) {
+    const [text, found] = [checked(piece), []];
+    for (let at = 0; at < text.length; at += PORTION) {
+      found.push(...this.#kept.call(HEAR_BYTES, text, at, Math.min(at + PORTION, text.length)));
+    }
+    return found;
+  }
+
+  open() { this.#kept.call(BEGIN); }
   get opponent() { return this.#kept.call(OPPONENT); }
   close() { this.#kept.close(); }
 }

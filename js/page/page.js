@@ -13,8 +13,6 @@ import { Talk } from './talk.js';
 let [client, events, connection, name, match] = [null, null, null, null, new Match()];
 /** A lost connection: why, what may have reached the server or not, and with whom the match is resumed. */
 let lost = null;
-/** What came on this connection before the login was answered. */
-let greeting = '';
 /** What plays for the user at the server: `automove`, `greedy`; and whether it is being mended. */
 let [servers, isMending] = [[], false];
 /** A board of others that is watched, and the last one of the user's own. */
@@ -132,9 +130,7 @@ const hear = (piece) => {
     isList ||= reading.message === 'whoInfo' || reading.message === 'whoInfoEnd';
   }
   if (isList) people.note(client.players, name);
-  // the greeting asks for the login; to ask once more is to refuse it
-  greeting += isIn() ? '' : String.fromCharCode(...piece);
-  if (!isIn() && greeting.split('login: ').length > 2) {
+  if (events.hearBytes(piece).some(({ event }) => event === 'loginRefused')) {
     lost = null;
     closed('The server does not know this name and password.');
     at('password').focus();
@@ -164,7 +160,8 @@ function connect() {
     heard: (bytes) => here === connection && hear(bytes),
     closed: (why) => here === connection && closed(why),
   });
-  [connection, greeting] = [here, ''];
+  connection = here;
+  events.open();
   show();
 }
 

@@ -112,6 +112,21 @@ test('lines say what has happened', () => {
   assert.throws(() => events.hear('hello'), { name: 'Closed' });
 });
 
+test('a server that asks for the login once more has refused it', () => {
+  const events = new Events();
+  const refused = [{ event: 'loginRefused' }];
+  assert.deepEqual(events.hearBytes('Welcome to FIBS.\r\nlogin: '), []);
+  assert.deepEqual(events.hearBytes(Buffer.from('\r\nlogin: ')), refused);
+  assert.deepEqual(events.hearBytes(''), []);
+  events.open();
+  assert.deepEqual(events.hearBytes('login: '), []);
+  const long = `\n${'a'.repeat(200000)}\nlogin: `;
+  assert.deepEqual(events.hearBytes(long), refused);
+  for (const end of ['1 ann 1041253132 localhost', '\nlogin: ']) assert.deepEqual(events.hearBytes(end), []);
+  events.close();
+  assert.throws(() => events.open(), { name: 'Closed' });
+});
+
 test('a client plays', () => {
   const client = new Client('ann', 'secret');
   assert.equal(client.open(), 'login fibs_client 1008 ann secret\r\n');
@@ -217,7 +232,7 @@ test('what is no string and no buffer is a TypeError, wherever it is given', () 
     files: (it) => files.hear(it), named: (it) => new MatchFiles(it), feed: (it) => lines.feed(it),
     note: (it) => directory.note(it),
     get: (it) => directory.get(it), hear: (it) => client.feed(it), decide: (it) => client.decide(it),
-    plain: (it) => client.plain(it), event: (it) => events.hear(it) };
+    plain: (it) => client.plain(it), event: (it) => events.hear(it), bytes: (it) => events.hearBytes(it) };
   for (const [name, call] of Object.entries(calls)) {
     for (const wrong of WRONG) assert.throws(() => call(wrong), TypeError, `${name}: ${String(wrong)}`);
   }

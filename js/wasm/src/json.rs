@@ -115,6 +115,7 @@ impl Json {
         self.open('{');
         match event {
             Event::LoggedIn { name } => self.named("loggedIn", name),
+            Event::LoginRefused => self.texts(&[("event", b"loginRefused")]),
             Event::Invited { name, length } => {
                 self.named("invited", name);
                 self.length(*length);

@@ -378,7 +378,12 @@ fn of_events(events: &mut Events, what: u32, input: &[u8]) -> String {
             Ok(happened) => Json::of(|json| json.list(happened, |json, event| json.event(&event))),
             Err(why) => fault(why),
         },
-        _ => Json::of(|json| json.text(events.opponent())),
+        1 => Json::of(|json| json.text(events.opponent())),
+        2 => Json::of(|json| json.list(events.hear_bytes(input), |json, event| json.event(&event))),
+        _ => {
+            events.open();
+            "null".into()
+        }
     }
 }
 
