@@ -2,6 +2,7 @@
 -- says of the login.
 pub mod Mirrored
 pub mod Played
+pub mod Ends
 pub mod Happenings
 pub mod Known
 pub mod Asking

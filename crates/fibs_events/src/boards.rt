@@ -6,6 +6,7 @@ ghost use Rattle.fibs_position.specs.GameOf.{game_of};
 ghost use Rattle.fibs_position.specs.GamePart.{same_game};
 ghost use Rattle.fibs_position.specs.GoodBoard.{good};
 ghost use Rattle.fibs_rules.specs.PlayValue.{hops_of};
+ghost use Rattle.fibs_events.specs.Ends.{GameWon, MatchWon, WonFrom};
 ghost use Rattle.fibs_events.specs.Happenings.{PlayedFrom, PlayedBy, RollShown, nothing};
 ghost use Rattle.fibs_events.specs.Known.{known_of};
 
@@ -82,6 +83,8 @@ impl Events {
     fn hear_first<'a>(&mut self, game: &GameBoard) -> Happened<'a>
         ensures played { result.played ≡ None }
         ensures rolled { IfSome result.rolled (λ rolled. RollShown (game_of game.now) rolled) }
+        ensures won { result.won ≡ None }
+        ensures won_match { result.won_match ≡ None }
     {
         let mut happened = Happened::nothing();
         happened.doubled = self.note_double(game);
@@ -90,7 +93,9 @@ impl Events {
     }
 
     /// The end of a game that scores show, if it was not reported yet. Nothing else is known of the game then.
-    fn note_end(&mut self, before: &GameBoard, game: &GameBoard) -> Option<Won> {
+    fn note_end(&mut self, before: &GameBoard, game: &GameBoard) -> Option<Won>
+        ensures { IfSome result (λ won. GameWon (game_of before.now) (game_of game.now) won) }
+    {
         if self.game.is_over || is_same_score(before, game) {
             return None;
         }
@@ -99,7 +104,9 @@ impl Events {
     }
 
     /// The end of the match that a board shows, if it was not reported yet.
-    fn note_match_end(&mut self, game: &GameBoard) -> Option<WonMatch> {
+    fn note_match_end(&mut self, game: &GameBoard) -> Option<WonMatch>
+        ensures { IfSome result (λ won. MatchWon (game_of game.now) won) }
+    {
         if self.is_won || game.phase() != Phase::Over {
             return None;
         }
@@ -112,6 +119,8 @@ impl Events {
     fn hear_next_game<'a>(&mut self, before: &GameBoard, game: &GameBoard) -> Happened<'a>
         ensures played { result.played ≡ None }
         ensures rolled { IfSome result.rolled (λ rolled. RollShown (game_of game.now) rolled) }
+        ensures won { IfSome result.won (λ won. GameWon (game_of before.now) (game_of game.now) won) }
+        ensures won_match { result.won_match ≡ None }
     {
         let won = self.note_end(before, game);
         self.game = Game::new();
@@ -153,6 +162,8 @@ impl Events {
     ) -> Happened<'a>
         ensures played { result.played ≡ played }
         ensures rolled { IfSome result.rolled (λ rolled. RollShown (game_of game.now) rolled) }
+        ensures won { IfSome result.won (λ won. GameWon (game_of before.now) (game_of game.now) won) }
+        ensures won_match { IfSome result.won_match (λ won. MatchWon (game_of game.now) won) }
     {
         self.note_play(&played);
         let mut happened = Happened::nothing();
@@ -177,6 +188,10 @@ impl Events {
             PlayedBy turned.who (game_of before.now) (hops_of turned.play) (game_of game.now))) }
         ensures rolled { IfOk result (λ happened.
             IfSome happened.rolled (λ rolled. RollShown (game_of game.now) rolled)) }
+        ensures won { IfOk result (λ happened.
+            IfSome happened.won (λ won. GameWon (game_of before.now) (game_of game.now) won)) }
+        ensures won_match { IfOk result (λ happened.
+            IfSome happened.won_match (λ won. MatchWon (game_of game.now) won)) }
     {
         if is_next_game(before, game, self.game.is_over) {
             return Ok(self.hear_next_game(before, game));
@@ -191,6 +206,10 @@ impl Events {
             PlayedFrom (known_of self.old) turned.who (hops_of turned.play) (game_of game.now))) }
         ensures rolled { IfOk result (λ happened.
             IfSome happened.rolled (λ rolled. RollShown (game_of game.now) rolled)) }
+        ensures won { IfOk result (λ happened.
+            IfSome happened.won (λ won. WonFrom (known_of self.old) (game_of game.now) won)) }
+        ensures won_match { IfOk result (λ happened.
+            IfSome happened.won_match (λ won. MatchWon (game_of game.now) won)) }
         ensures repeated { IfSome (known_of self.old) (λ b.
             same_game b (game_of game.now) ≡ true → result ≡ Ok nothing) }
     {
@@ -222,6 +241,10 @@ impl Events {
             PlayedFrom (known_of self.old) turned.who (hops_of turned.play) (fields_of board.now))) }
         ensures rolled { IfOk result (λ happened.
             IfSome happened.rolled (λ rolled. RollShown (fields_of board.now) rolled)) }
+        ensures won { IfOk result (λ happened.
+            IfSome happened.won (λ won. WonFrom (known_of self.old) (fields_of board.now) won)) }
+        ensures won_match { IfOk result (λ happened.
+            IfSome happened.won_match (λ won. MatchWon (fields_of board.now) won)) }
         ensures repeated { IfSome (known_of self.old) (λ b.
             same_game b (fields_of board.now) ≡ true → result ≡ Ok nothing) }
         ensures known { good (fields_of board.now) ≡ true →

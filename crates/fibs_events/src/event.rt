@@ -1,5 +1,8 @@
 //! What has happened, as values.
 
+ghost use Rattle.std.specs.Prelude.{◌≡◌};
+ghost use Rattle.fibs_events.specs.Ends.{other_side};
+
 use fibs_messages::Name;
 use fibs_position::{Play, Stake};
 
@@ -169,7 +172,9 @@ pub enum Event<'a> {
 
 impl Side {
     /// The side that is not this one.
-    pub fn other(self) -> Side {
+    pub fn other(self) -> Side
+        ensures { result ≡ other_side self }
+    {
         match self {
             Side::Own => Side::Other,
             Side::Other => Side::Own,

@@ -1,6 +1,11 @@
 //! Points of games and of matches.
 
-ghost use Rattle.std.specs.Prelude.{◌≤◌};
+ghost use Rattle.std.specs.Prelude.{◌≡◌, ◌≤◌, ◌==◌, ◌*◌, IfSome};
+ghost use Rattle.fibs_fields.specs.Board.{field_of};
+ghost use Rattle.fibs_fields.specs.FieldReading.{natural};
+ghost use Rattle.fibs_fields.specs.StoredBoard.{fields_of};
+ghost use Rattle.fibs_position.specs.GameOf.{game_of};
+ghost use Rattle.fibs_events.specs.Ends.{GameWon, MatchWon, cube_of, score_of, scores_of, worth_of};
 
 use crate::event::Side;
 use crate::happened::{Won, WonMatch};
@@ -12,50 +17,79 @@ use fibs_position::{GameBoard, Stake};
 fn number(board: &Board, field: usize) -> u32
     requires low { 4 ≤ field }
     requires high { field ≤ 53 }
+    ensures { result ≡ natural (field_of (fields_of board.now) field) }
 {
     u32::try_from(board.field(field)).unwrap_or(0)
 }
 
-/// What so many points are on the cube of a game.
-pub(crate) fn worth(points: u32, game: Option<&GameBoard>) -> Option<Stake> {
-    let cube = number(game?.board(), CUBE);
+/// What so many points are on the cube of a board.
+fn worth_on(points: u32, game: &GameBoard) -> Option<Stake>
+    ensures { result ≡ worth_of points (cube_of (game_of game.now)) }
+{
+    let points = u64::from(points);
+    let cube = u64::from(number(game.board(), CUBE));
     if points == cube {
         Some(Stake::Normal)
-    } else if points == cube.saturating_mul(2) {
+    } else if points == cube * 2 {
         Some(Stake::Gammon)
-    } else if points == cube.saturating_mul(3) {
+    } else if points == cube * 3 {
         Some(Stake::Backgammon)
     } else {
         None
     }
 }
 
-/// The points of the user and of his opponent on a board.
-fn scores(board: &Board) -> [u32; 2] {
-    [number(board, OWN_SCORE), number(board, OTHER_SCORE)]
+/// What so many points are on the cube of a game, if a board of it is known.
+pub(crate) fn worth(points: u32, game: Option<&GameBoard>) -> Option<Stake> {
+    worth_on(points, game?)
 }
 
-/// Who has won how many points from a board to another, if just one side has won some.
-fn points_between(before: &Board, after: &Board) -> Option<(Side, u32)> {
-    let [own, other] = scores(before);
-    let [own_now, other_now] = scores(after);
-    if own < own_now && other == other_now {
-        Some((Side::Own, own_now.saturating_sub(own)))
-    } else if own == own_now && other < other_now {
-        Some((Side::Other, other_now.saturating_sub(other)))
-    } else {
-        None
+/// The points of a side on a board.
+fn score(who: Side, board: &Board) -> u32
+    ensures { result ≡ score_of who (fields_of board.now) }
+{
+    match who {
+        Side::Own => number(board, OWN_SCORE),
+        Side::Other => number(board, OTHER_SCORE),
     }
 }
 
-/// The end of a game that the scores of two boards show.
-pub(crate) fn won_between(before: &GameBoard, after: &GameBoard) -> Option<Won> {
-    let (winner, points) = points_between(before.board(), after.board())?;
+/// The points of the user and of his opponent on a board.
+fn scores(board: &Board) -> [u32; 2]
+    ensures { result ≡ scores_of (fields_of board.now) }
+{
+    [score(Side::Own, board), score(Side::Other, board)]
+}
+
+/// The end of a game that this side has won, if the scores of two boards show that: it has more points, and the other
+/// side as many as before.
+fn won_by(winner: Side, before: &GameBoard, after: &GameBoard) -> Option<Won>
+    ensures { IfSome result (λ won. GameWon (game_of before.now) (game_of after.now) won) }
+{
+    let loser = winner.other();
+    if score(loser, after.board()) != score(loser, before.board()) {
+        return None;
+    }
+    let (had, has) = (score(winner, before.board()), score(winner, after.board()));
+    if has <= had {
+        return None;
+    }
+    let points = has - had;
     Some(Won {
         winner,
         points,
-        worth: worth(points, Some(before)),
+        worth: worth_on(points, before),
     })
+}
+
+/// The end of a game that the scores of two boards show.
+pub(crate) fn won_between(before: &GameBoard, after: &GameBoard) -> Option<Won>
+    ensures { IfSome result (λ won. GameWon (game_of before.now) (game_of after.now) won) }
+{
+    match won_by(Side::Own, before, after) {
+        Some(won) => Some(won),
+        None => won_by(Side::Other, before, after),
+    }
 }
 
 /// Whether both boards have the same points.
@@ -74,33 +108,38 @@ pub(crate) fn is_same_match(before: &GameBoard, after: &GameBoard) -> bool {
         && other <= other_now
 }
 
-/// The end of a match to so many points, if a side has them.
-fn match_end(length: u32, score: [u32; 2]) -> Option<WonMatch> {
-    let [own, other] = score;
-    let winner = if length <= own {
-        Side::Own
-    } else if length <= other {
-        Side::Other
-    } else {
+/// The end of the match that a board shows, if this side has won it.
+fn match_won_by(winner: Side, board: &Board) -> Option<WonMatch>
+    ensures { IfSome result (λ won. MatchWon (fields_of board.now) won) }
+{
+    let length = number(board, MATCH_LENGTH);
+    if score(winner, board) < length {
         return None;
-    };
+    }
     Some(WonMatch {
         winner,
         length,
-        score,
+        score: scores(board),
     })
 }
 
 /// The end of the match that a board shows.
-pub(crate) fn won_match_on(game: &GameBoard) -> Option<WonMatch> {
+pub(crate) fn won_match_on(game: &GameBoard) -> Option<WonMatch>
+    ensures { IfSome result (λ won. MatchWon (game_of game.now) won) }
+{
     let board = game.board();
     if board.field(MATCH_LENGTH) == UNLIMITED {
         return None;
     }
-    match_end(number(board, MATCH_LENGTH), scores(board))
+    match match_won_by(Side::Own, board) {
+        Some(won) => Some(won),
+        None => match_won_by(Side::Other, board),
+    }
 }
 
 /// Whether the cube shows twice as much as before.
-pub(crate) fn is_cube_doubled(before: &GameBoard, after: &GameBoard) -> bool {
-    number(after.board(), CUBE) == number(before.board(), CUBE).saturating_mul(2)
+pub(crate) fn is_cube_doubled(before: &GameBoard, after: &GameBoard) -> bool
+    ensures { result ≡ (cube_of (game_of after.now) == cube_of (game_of before.now) * 2) }
+{
+    u64::from(number(after.board(), CUBE)) == u64::from(number(before.board(), CUBE)) * 2
 }
