@@ -9,4 +9,5 @@ pub mod Told
 -- What only private functions and proofs say.
 pub mod Parts
 pub mod Events
+pub mod Counting
 pub mod Eventful

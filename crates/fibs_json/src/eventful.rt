@@ -1,9 +1,12 @@
-//! `fibs show --json --events`: prints an object for each line of a stream, after it one for each event of the line,
+//! `fibs show --events`: prints an object for each line of a stream, after it one for each event of the line,
 //! and at the end a summary.
-ghost use Rattle.std.specs.Prelude.{◌≡◌, ◌*◌, ◌++◌, ℕ, List, Option, IfOk, OnOk};
+ghost use Rattle.std.specs.Prelude.{◌≡◌, ◌*◌, ◌++◌, List, Option, IfOk, OnOk};
 ghost use Rattle.std.specs.Io.KnownBytes.{Appends, IsAtEnd};
 ghost use Rattle.fibs_engine.specs.Reads.{LostAtMost};
 ghost use Rattle.fibs_events.specs.declared.event.Event.{Event};
+ghost use Rattle.fibs_messages.specs.Line.{reading_of};
+ghost use Rattle.fibs_json.specs.Counting.{event_members, line_members, nothing_counted, other_members, summary_object, with_any, with_event, with_events, with_line, with_text};
+ghost use Rattle.fibs_json.specs.Json.{more_members};
 ghost use Rattle.fibs_json.specs.Eventful.{EventfulLine, WroteAll, event_line, event_lines};
 ghost use Rattle.fibs_json.specs.Lines.{unfinished_object};
 
@@ -18,7 +21,7 @@ use fibs_engine::status::Status;
 use fibs_engine::writing::write_bytes;
 use fibs_events::Events;
 use fibs_events::event::Event;
-use fibs_events::happened::{Happened, MOST_EVENTS};
+use fibs_events::happened::Happened;
 use fibs_lines::Line;
 use fibs_messages::{Reading, read};
 use std::alloc::{AllocError, Global};
@@ -52,7 +55,9 @@ struct EventObjects {
 
 impl Counts {
     /// Nothing was read.
-    fn new() -> Counts {
+    fn new() -> Counts
+        ensures { result ≡ nothing_counted }
+    {
         Counts {
             lines: 0,
             boards: 0,
@@ -68,7 +73,9 @@ impl Counts {
     }
 
     /// A line was read.
-    fn count_line(&mut self, line: &Line<'_>, reading: &Reading<'_>) {
+    fn count_line(&mut self, line: &Line<'_>, reading: &Reading<'_>)
+        ensures { self.new ≡ with_line self.old line.now.cut (reading_of reading.now) }
+    {
         self.lines = self.lines.saturating_add(1);
         if line.cut {
             self.cut = self.cut.saturating_add(1);
@@ -83,7 +90,9 @@ impl Counts {
     }
 
     /// A text was read.
-    fn count_text(&mut self, text: &[u8]) {
+    fn count_text(&mut self, text: &[u8])
+        ensures { self.new ≡ with_text self.old text.now }
+    {
         if text.starts_with(SENT) {
             self.sent = self.sent.saturating_add(1);
         } else {
@@ -92,7 +101,9 @@ impl Counts {
     }
 
     /// Something has happened.
-    fn count_event(&mut self, event: &Event<'_>) {
+    fn count_event(&mut self, event: &Event<'_>)
+        ensures { self.new ≡ with_event self.old event.now }
+    {
         self.events = self.events.saturating_add(1);
         match event {
             Event::GameOver { .. } => self.games = self.games.saturating_add(1),
@@ -101,12 +112,22 @@ impl Counts {
         }
     }
 
+    /// Something may have happened.
+    fn count_any(&mut self, event: &Option<Event<'_>>)
+        ensures { self.new ≡ with_any self.old event.now }
+    {
+        match event {
+            None => {}
+            Some(event) => self.count_event(event),
+        }
+    }
+
     /// This has happened by a line.
-    fn count_events(&mut self, events: &[Option<Event<'_>>]) {
+    fn count_events(&mut self, events: &[Option<Event<'_>>])
+        ensures { self.new ≡ with_events self.old events.now }
+    {
         for event in events {
-            if let Some(event) = event {
-                self.count_event(event);
-            }
+            self.count_any(event);
         }
     }
 }
@@ -138,15 +159,6 @@ fn append_events(
     Ok(())
 }
 
-/// Appends the objects of what has happened by the line with this number.
-fn append_all(number: u64, happened: &Happened<'_>, text: &mut Vec<u8>) -> Result<(), AllocError>
-    ensures { OnOk result ((number : ℕ) × (events : List (Option Event))
-        × (text.new.items ≡ text.old.items ++ event_lines number events)) }
-{
-    let events = happened.events();
-    append_events(number, &events, text)
-}
-
 impl EventObjects {
     /// Nothing was read.
     fn new(alloc: Global) -> EventObjects {
@@ -162,7 +174,9 @@ impl EventObjects {
         &mut self,
         line: &Line<'_>,
         reading: &Reading<'a>,
-    ) -> Result<Happened<'a>, AllocError> {
+    ) -> Result<Happened<'a>, AllocError>
+        ensures { self.new.counts ≡ with_line self.old.counts line.now.cut (reading_of reading.now) }
+    {
         self.counts.count_line(line, reading);
         if line.cut {
             Ok(Happened::nothing())
@@ -171,19 +185,21 @@ impl EventObjects {
         }
     }
 
-    /// Appends what has happened by a line.
+    /// Appends what has happened by a line, with the number of lines up to this one, and counts it.
     fn append_happened(
         &mut self,
         line: &Line<'_>,
         reading: &Reading<'_>,
         text: &mut Vec<u8>,
     ) -> Result<(), AllocError>
-        ensures { OnOk result ((number : ℕ) × (events : List (Option Event))
-            × (text.new.items ≡ text.old.items ++ event_lines number events)) }
+        ensures { OnOk result ((events : List (Option Event))
+            × (text.new.items ≡ text.old.items ++ event_lines self.new.counts.lines events)
+            × (self.new.counts
+            ≡ with_events (with_line self.old.counts line.now.cut (reading_of reading.now)) events)) }
     {
-        let happened = self.hear(line, reading)?;
-        self.counts.count_events(&happened.events());
-        append_all(self.counts.lines, &happened, text)
+        let events = self.hear(line, reading)?.events();
+        self.counts.count_events(&events);
+        append_events(self.counts.lines, &events, text)
     }
 }
 
@@ -204,18 +220,44 @@ impl LinePrinter for EventObjects {
     }
 }
 
-/// Appends the members of a summary.
-fn append_counts(counts: &Counts, text: &mut Vec<u8>) -> Result<(), AllocError> {
+/// Appends how many lines there were, boards, messages and texts.
+fn append_line_counts(counts: &Counts, text: &mut Vec<u8>) -> Result<(), AllocError>
+    ensures { OnOk result (text.new.items ≡ text.old.items ++ more_members (line_members counts.now)) }
+{
     append_whole(b"lines", counts.lines, text)?;
     append_whole(b"boards", counts.boards, text)?;
     append_whole(b"messages", counts.messages, text)?;
-    append_whole(b"texts", counts.texts, text)?;
+    append_whole(b"texts", counts.texts, text)
+}
+
+/// Appends how many lines were sent, cut and malformed.
+fn append_other_counts(counts: &Counts, text: &mut Vec<u8>) -> Result<(), AllocError>
+    ensures { OnOk result (text.new.items ≡ text.old.items ++ more_members (other_members counts.now)) }
+{
     append_whole(b"sent", counts.sent, text)?;
     append_whole(b"cut", counts.cut, text)?;
-    append_whole(b"malformed", counts.malformed, text)?;
+    append_whole(b"malformed", counts.malformed, text)
+}
+
+/// Appends how many events there were, and ends of games and matches.
+fn append_event_counts(counts: &Counts, text: &mut Vec<u8>) -> Result<(), AllocError>
+    ensures { OnOk result (text.new.items ≡ text.old.items ++ more_members (event_members counts.now)) }
+{
     append_whole(b"events", counts.events, text)?;
     append_whole(b"games", counts.games, text)?;
     append_whole(b"matches", counts.matches, text)
+}
+
+/// Appends a summary, with its line end.
+fn append_summary(counts: &Counts, text: &mut Vec<u8>) -> Result<(), AllocError>
+    ensures { OnOk result (text.new.items ≡ text.old.items ++ summary_object counts.now) }
+{
+    text.extend_from_slice(b"{\"kind\":\"summary\"")?;
+    append_line_counts(counts, text)?;
+    append_other_counts(counts, text)?;
+    append_event_counts(counts, text)?;
+    text.extend_from_slice(b"}\n")?;
+    Ok(())
 }
 
 /// Writes the summary.
@@ -224,12 +266,10 @@ fn write_summary<W: Write>(
     counts: &Counts,
     writer: &mut W,
 ) -> Result<(), EngineFault>
-    ensures { OnOk result ((summary : List ℕ) × Appends (W.contents writer.old) (W.contents writer.new) summary) }
+    ensures { OnOk result (Appends (W.contents writer.old) (W.contents writer.new) (summary_object counts.now)) }
 {
     let mut text = Vec::new(alloc);
-    text.extend_from_slice(b"{\"kind\":\"summary\"")?;
-    append_counts(counts, &mut text)?;
-    text.extend_from_slice(b"}\n")?;
+    append_summary(counts, &mut text)?;
     write_bytes(text.as_slice(), writer)?;
     Ok(())
 }
