@@ -29,6 +29,37 @@ scores_of b = score_of S.Own b ∷ score_of S.Other b ∷ []
 abbrev pub cube_of : BoardFields → ℕ
 cube_of b = natural (field_of b 38)
 
+-- who has taken the last double, by who may double next
+abbrev pub taker_of : BoardFields → Option Side
+taker_of b =
+    if (natural (field_of b 39) == 1) && (natural (field_of b 40) == 0) then Some S.Own
+    else if (natural (field_of b 39) == 0) && (natural (field_of b 40) == 1) then Some S.Other
+    else None
+
+-- who has taken a double: the other side than the one that is known to have doubled, or else whom the board says
+abbrev pub taker_from : Option Side → Option Side → Option Side
+taker_from None shown = shown
+taker_from (Some doubler) shown = Some (other_side doubler)
+
+-- a side has taken a double between two boards: the cube shows twice as much
+pub record TakenBetween (doubler : Option Side) (before after : BoardFields) (who : Side) : Type 0 where
+  pub cube : cube_of after ≡ cube_of before * 2
+  pub by : taker_from doubler (taker_of after) ≡ Some who
+
+-- the same from the board that is known, if one is
+abbrev pub TakenFrom : Option Side → Option BoardFields → BoardFields → Side → Type 0
+TakenFrom doubler None after who = ⊥
+TakenFrom doubler (Some before) after who = TakenBetween doubler before after who
+
+-- a board shows a double: the opponent's, which waits for an answer
+abbrev pub DoubleShown : BoardFields → Side → Type 0
+DoubleShown b who = (who ≡ S.Other) × (phase_of b ≡ P.AnswerDouble)
+
+-- a side has doubled: a board shows it, or that the other side has taken it
+abbrev pub DoubledFrom : Option BoardFields → BoardFields → Side → Type 0
+DoubledFrom known after who =
+    DoubleShown after who ⊎ ((taker : Side) × TakenFrom None known after taker × (who ≡ other_side taker))
+
 -- what points are on a cube
 abbrev pub worth_of : ℕ → ℕ → Option Stake
 worth_of points cube =

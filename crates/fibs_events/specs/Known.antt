@@ -13,6 +13,10 @@ use Rattle.fibs_events.specs.declared.memory.Events.{Events}
 abbrev pub known_of : Events → Option BoardFields
 known_of e = option_map game_of e.known
 
+-- who has doubled and was not answered, as far as it is known
+abbrev pub doubler_of : Events → Option Side
+doubler_of e = e.game.doubled
+
 -- a play that is reported at a line: of a board, from the board that is known; of a text, legal on it; of no other line
 abbrev pub IsHeard : Option BoardFields → ReadingValue → Side → List Hop → Type 0
 IsHeard known (board_line b) side steps = PlayedFrom known side steps b

@@ -6,17 +6,18 @@ ghost use Rattle.fibs_position.specs.GameOf.{game_of};
 ghost use Rattle.fibs_position.specs.GamePart.{same_game};
 ghost use Rattle.fibs_position.specs.GoodBoard.{good};
 ghost use Rattle.fibs_rules.specs.PlayValue.{hops_of};
-ghost use Rattle.fibs_events.specs.Ends.{GameWon, MatchWon, WonFrom};
+ghost use Rattle.fibs_events.specs.Ends.{DoubleShown, DoubledFrom, GameWon, MatchWon, TakenBetween, TakenFrom, WonFrom};
 ghost use Rattle.fibs_events.specs.Happenings.{PlayedFrom, PlayedBy, RollShown, nothing};
-ghost use Rattle.fibs_events.specs.Known.{known_of};
+ghost use Rattle.fibs_events.specs.Known.{doubler_of, known_of};
 
 use crate::event::Side;
 use crate::happened::{Happened, Rolled, Turned, Won, WonMatch};
 use crate::memory::{Events, Game, Stage, kept};
-use crate::scores::{is_cube_doubled, is_same_match, is_same_score, won_between, won_match_on};
+use crate::scores::{
+    is_cube_doubled, is_same_match, is_same_score, taker_on, won_between, won_match_on,
+};
 use crate::turning::{dice_of, roller_of, turned};
 use fibs_fields::boards::Board;
-use fibs_fields::boards::fields::{MAY_DOUBLE, OTHER_MAY_DOUBLE, WAS_DOUBLED};
 use fibs_position::{GameBoard, Phase, differs};
 use std::alloc::{AllocError, Global};
 
@@ -35,16 +36,6 @@ fn roll_on(game: &GameBoard) -> Option<Rolled>
 fn is_next_game(before: &GameBoard, game: &GameBoard, was_over: bool) -> bool {
     let is_over = game.phase() == Phase::Over;
     !is_over && (was_over || before.phase() == Phase::Over || !is_same_score(before, game))
-}
-
-/// Who has taken a double, by who may double next.
-fn taker_on(game: &GameBoard) -> Option<Side> {
-    let board = game.board();
-    match (board.field(MAY_DOUBLE), board.field(OTHER_MAY_DOUBLE)) {
-        (1, 0) => Some(Side::Own),
-        (0, 1) => Some(Side::Other),
-        _ => None,
-    }
 }
 
 impl Events {
@@ -71,11 +62,12 @@ impl Events {
     }
 
     /// Who doubles, if a board says that the opponent does and it was not reported yet.
-    fn note_double(&mut self, game: &GameBoard) -> Option<Side> {
-        if game.board().field(WAS_DOUBLED) == 1 && game.phase() == Phase::AnswerDouble {
-            self.game.note_double(Side::Other)
-        } else {
-            None
+    fn note_double(&mut self, game: &GameBoard) -> Option<Side>
+        ensures { IfSome result (λ who. DoubleShown (game_of game.now) who) }
+    {
+        match game.phase() {
+            Phase::AnswerDouble => self.game.note_double(Side::Other),
+            _ => None,
         }
     }
 
@@ -83,6 +75,8 @@ impl Events {
     fn hear_first<'a>(&mut self, game: &GameBoard) -> Happened<'a>
         ensures played { result.played ≡ None }
         ensures rolled { IfSome result.rolled (λ rolled. RollShown (game_of game.now) rolled) }
+        ensures doubled { IfSome result.doubled (λ who. DoubleShown (game_of game.now) who) }
+        ensures accepted { result.accepted ≡ None }
         ensures won { result.won ≡ None }
         ensures won_match { result.won_match ≡ None }
     {
@@ -119,6 +113,8 @@ impl Events {
     fn hear_next_game<'a>(&mut self, before: &GameBoard, game: &GameBoard) -> Happened<'a>
         ensures played { result.played ≡ None }
         ensures rolled { IfSome result.rolled (λ rolled. RollShown (game_of game.now) rolled) }
+        ensures doubled { IfSome result.doubled (λ who. DoubleShown (game_of game.now) who) }
+        ensures accepted { result.accepted ≡ None }
         ensures won { IfSome result.won (λ won. GameWon (game_of before.now) (game_of game.now) won) }
         ensures won_match { result.won_match ≡ None }
     {
@@ -130,7 +126,9 @@ impl Events {
     }
 
     /// Takes note of a play.
-    fn note_play(&mut self, played: &Option<Turned>) {
+    fn note_play(&mut self, played: &Option<Turned>)
+        ensures { doubler_of self.new ≡ doubler_of self.old }
+    {
         if played.is_some() {
             self.game.roll = None;
             self.game.resignation = None;
@@ -138,7 +136,11 @@ impl Events {
     }
 
     /// What a board shows of the cube: who doubles, and who has accepted that.
-    fn note_cube(&mut self, before: &GameBoard, game: &GameBoard) -> (Option<Side>, Option<Side>) {
+    fn note_cube(&mut self, before: &GameBoard, game: &GameBoard) -> (Option<Side>, Option<Side>)
+        ensures doubled { IfSome result.0 (λ who. DoubledFrom (Some (game_of before.now)) (game_of game.now) who) }
+        ensures accepted { IfSome result.1 (λ who.
+            TakenBetween (doubler_of self.old) (game_of before.now) (game_of game.now) who) }
+    {
         if !is_cube_doubled(before, game) {
             return (self.note_double(game), None);
         }
@@ -162,6 +164,10 @@ impl Events {
     ) -> Happened<'a>
         ensures played { result.played ≡ played }
         ensures rolled { IfSome result.rolled (λ rolled. RollShown (game_of game.now) rolled) }
+        ensures doubled { IfSome result.doubled (λ who.
+            DoubledFrom (Some (game_of before.now)) (game_of game.now) who) }
+        ensures accepted { IfSome result.accepted (λ who.
+            TakenBetween (doubler_of self.old) (game_of before.now) (game_of game.now) who) }
         ensures won { IfSome result.won (λ won. GameWon (game_of before.now) (game_of game.now) won) }
         ensures won_match { IfSome result.won_match (λ won. MatchWon (game_of game.now) won) }
     {
@@ -188,6 +194,10 @@ impl Events {
             PlayedBy turned.who (game_of before.now) (hops_of turned.play) (game_of game.now))) }
         ensures rolled { IfOk result (λ happened.
             IfSome happened.rolled (λ rolled. RollShown (game_of game.now) rolled)) }
+        ensures doubled { IfOk result (λ happened. IfSome happened.doubled (λ who.
+            DoubledFrom (Some (game_of before.now)) (game_of game.now) who)) }
+        ensures accepted { IfOk result (λ happened. IfSome happened.accepted (λ who.
+            TakenBetween (doubler_of self.old) (game_of before.now) (game_of game.now) who)) }
         ensures won { IfOk result (λ happened.
             IfSome happened.won (λ won. GameWon (game_of before.now) (game_of game.now) won)) }
         ensures won_match { IfOk result (λ happened.
@@ -206,6 +216,10 @@ impl Events {
             PlayedFrom (known_of self.old) turned.who (hops_of turned.play) (game_of game.now))) }
         ensures rolled { IfOk result (λ happened.
             IfSome happened.rolled (λ rolled. RollShown (game_of game.now) rolled)) }
+        ensures doubled { IfOk result (λ happened.
+            IfSome happened.doubled (λ who. DoubledFrom (known_of self.old) (game_of game.now) who)) }
+        ensures accepted { IfOk result (λ happened. IfSome happened.accepted (λ who.
+            TakenFrom (doubler_of self.old) (known_of self.old) (game_of game.now) who)) }
         ensures won { IfOk result (λ happened.
             IfSome happened.won (λ won. WonFrom (known_of self.old) (game_of game.now) won)) }
         ensures won_match { IfOk result (λ happened.
@@ -241,6 +255,10 @@ impl Events {
             PlayedFrom (known_of self.old) turned.who (hops_of turned.play) (fields_of board.now))) }
         ensures rolled { IfOk result (λ happened.
             IfSome happened.rolled (λ rolled. RollShown (fields_of board.now) rolled)) }
+        ensures doubled { IfOk result (λ happened.
+            IfSome happened.doubled (λ who. DoubledFrom (known_of self.old) (fields_of board.now) who)) }
+        ensures accepted { IfOk result (λ happened. IfSome happened.accepted (λ who.
+            TakenFrom (doubler_of self.old) (known_of self.old) (fields_of board.now) who)) }
         ensures won { IfOk result (λ happened.
             IfSome happened.won (λ won. WonFrom (known_of self.old) (fields_of board.now) won)) }
         ensures won_match { IfOk result (λ happened.

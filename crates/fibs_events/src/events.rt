@@ -7,9 +7,9 @@ ghost use Rattle.fibs_position.specs.GamePart.{same_game};
 ghost use Rattle.fibs_position.specs.GoodBoard.{good};
 ghost use Rattle.fibs_messages.specs.Line.{board_line, reading_of};
 ghost use Rattle.fibs_rules.specs.PlayValue.{hops_of};
-ghost use Rattle.fibs_events.specs.Ends.{MatchWon, WonFrom};
+ghost use Rattle.fibs_events.specs.Ends.{DoubledFrom, MatchWon, TakenFrom, WonFrom};
 ghost use Rattle.fibs_events.specs.Happenings.{nothing};
-ghost use Rattle.fibs_events.specs.Known.{IsHeard, IsRollHeard, known_of};
+ghost use Rattle.fibs_events.specs.Known.{IsHeard, IsRollHeard, doubler_of, known_of};
 
 use crate::happened::Happened;
 use crate::memory::Events;
@@ -29,6 +29,10 @@ impl Events {
             IsHeard (known_of self.old) (reading_of reading.now) turned.who (hops_of turned.play))) }
         ensures rolled { IfOk result (λ happened. IfSome happened.rolled (λ rolled.
             IsRollHeard (reading_of reading.now) rolled)) }
+        ensures doubled { (b : BoardFields) → (reading_of reading.now ≡ board_line b) → IfOk result (λ happened.
+            IfSome happened.doubled (λ who. DoubledFrom (known_of self.old) b who)) }
+        ensures accepted { (b : BoardFields) → (reading_of reading.now ≡ board_line b) → IfOk result (λ happened.
+            IfSome happened.accepted (λ who. TakenFrom (doubler_of self.old) (known_of self.old) b who)) }
         ensures won { (b : BoardFields) → (reading_of reading.now ≡ board_line b) → IfOk result (λ happened.
             IfSome happened.won (λ won. WonFrom (known_of self.old) b won)) }
         ensures won_match { (b : BoardFields) → (reading_of reading.now ≡ board_line b) → IfOk result (λ happened.

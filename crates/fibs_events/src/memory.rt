@@ -144,7 +144,9 @@ impl Game {
     }
 
     /// Takes note of a double. Who doubles, if that was not reported yet.
-    pub(crate) fn note_double(&mut self, who: Side) -> Option<Side> {
+    pub(crate) fn note_double(&mut self, who: Side) -> Option<Side>
+        ensures { IfSome result (λ told. told ≡ who) }
+    {
         let is_known = self.doubled == Some(who);
         self.doubled = Some(who);
         if is_known { None } else { Some(who) }

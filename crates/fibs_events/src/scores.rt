@@ -5,12 +5,14 @@ ghost use Rattle.fibs_fields.specs.Board.{field_of};
 ghost use Rattle.fibs_fields.specs.FieldReading.{natural};
 ghost use Rattle.fibs_fields.specs.StoredBoard.{fields_of};
 ghost use Rattle.fibs_position.specs.GameOf.{game_of};
-ghost use Rattle.fibs_events.specs.Ends.{GameWon, MatchWon, cube_of, score_of, scores_of, worth_of};
+ghost use Rattle.fibs_events.specs.Ends.{GameWon, MatchWon, cube_of, score_of, scores_of, taker_of, worth_of};
 
 use crate::event::Side;
 use crate::happened::{Won, WonMatch};
 use fibs_fields::boards::Board;
-use fibs_fields::boards::fields::{CUBE, MATCH_LENGTH, OTHER_SCORE, OWN_SCORE, UNLIMITED};
+use fibs_fields::boards::fields::{
+    CUBE, MATCH_LENGTH, MAY_DOUBLE, OTHER_MAY_DOUBLE, OTHER_SCORE, OWN_SCORE, UNLIMITED,
+};
 use fibs_position::{GameBoard, Stake};
 
 /// A number of a field that is never negative.
@@ -142,4 +144,19 @@ pub(crate) fn is_cube_doubled(before: &GameBoard, after: &GameBoard) -> bool
     ensures { result ≡ (cube_of (game_of after.now) == cube_of (game_of before.now) * 2) }
 {
     u64::from(number(after.board(), CUBE)) == u64::from(number(before.board(), CUBE)) * 2
+}
+
+/// Who has taken a double, by who may double next.
+pub(crate) fn taker_on(game: &GameBoard) -> Option<Side>
+    ensures { result ≡ taker_of (game_of game.now) }
+{
+    let board = game.board();
+    let (own, other) = (number(board, MAY_DOUBLE), number(board, OTHER_MAY_DOUBLE));
+    if own == 1 && other == 0 {
+        Some(Side::Own)
+    } else if own == 0 && other == 1 {
+        Some(Side::Other)
+    } else {
+        None
+    }
 }
