@@ -8,7 +8,6 @@ struct Bot {
     client: Client,
     events: Events,
     opponent: String,
-    has_begun: bool,
     is_over: bool,
 }
 
@@ -22,7 +21,8 @@ impl Bot {
         }
         for event in self.events.hear(&reading)?.inspect(|event| println!("{event:?}")) {
             match event {
-                Event::NothingSaved { .. } if self.has_begun => self.is_over = true, // its end was not seen
+                // the end of the match that had begun was not seen
+                Event::NothingSaved { .. } if !self.events.opponent().is_empty() => self.is_over = true,
                 Event::NothingSaved { .. } => self.client.plain(&Plain::Invite(self.opponent.as_bytes(), Some(3)))?,
                 Event::OfferedToResign { who: Side::Other, .. } => self.client.own_line(b"accept")?,
                 Event::NextGame => self.client.plain(&Plain::Join(None))?,
@@ -37,7 +37,6 @@ impl Bot {
     fn decide(&mut self) -> Result<(), Box<dyn Error>> {
         let shown = self.client.shown().map(Position::try_from);
         let (Some(Ok(position)), None) = (shown, self.client.waiting()) else { return Ok(()) };
-        self.has_begun = true;
         let decision = match position.phase() {
             Phase::RollOrDouble => Decision::Roll,
             Phase::AnswerDouble => Decision::Accept,
@@ -50,10 +49,12 @@ impl Bot {
     /// Plays until the match is over, or the connection.
     fn converse(&mut self, mut stream: TcpStream) -> Result<(), Box<dyn Error>> {
         self.client.open()?;
+        self.events.open();
         let (mut room, mut got) = ([0; 4096], 1);
         while !self.is_over && got > 0 {
             got = self.client.write_to(&stream).and_then(|()| stream.read(&mut room)).unwrap_or(0);
             let mut piece = &room[..got];
+            self.events.hear_bytes(piece).next().map_or(Ok(()), |_| Err("the server refuses the login"))?;
             while let Some(heard) = self.client.hear(&mut piece).map(Heard::into_owned) {
                 self.answer(&heard)?;
             }
@@ -71,7 +72,7 @@ fn main() -> Result<(), Box<dyn Error>> {
     let [host, port, name, opponent] = &words[..] else { return Err("bot HOST PORT NAME OPPONENT".into()) };
     let password = std::io::stdin().lines().next().ok_or("no password")??;
     let client = Client::new(Login::new(name.as_bytes(), password.as_bytes())?);
-    let mut bot = Bot { client, events: Events::new(), opponent: opponent.clone(), has_begun: false, is_over: false };
+    let mut bot = Bot { client, events: Events::new(), opponent: opponent.clone(), is_over: false };
     while !bot.is_over {
         bot.converse(TcpStream::connect(format!("{host}:{port}"))?)?;
         println!("lost: {:?}", bot.client.lose().map(|lost| lost.decision));
