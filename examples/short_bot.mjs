@@ -13,7 +13,6 @@ class Bot {
     this.client = new Client(name, password);
     this.events = new Events();
     this.opponent = opponent;
-    this.hasBegun = false;
     this.isOver = false;
   }
 
@@ -25,7 +24,7 @@ class Bot {
       console.log(JSON.stringify(happened));
       if (happened.event === 'nothingSaved') {
         // a match that had begun is over then, and its end was not seen
-        this.isOver = this.hasBegun;
+        this.isOver = this.events.opponent !== '';
         if (!this.isOver) yield this.client.plain(`invite ${this.opponent} 3`);
       } else if (happened.event === 'offeredToResign' && happened.who === 'opponent') {
         yield this.client.ownLine('accept');
@@ -42,16 +41,17 @@ class Bot {
   /** What is decided at a board; null if nothing is. A server shows some boards twice: then a decision may wait. */
   decision({ line, phase, isOthers }) {
     if (isOthers || this.client.waiting) return null;
-    this.hasBegun = true;
     return phase === 'Move' ? plays(line)[0] : { RollOrDouble: 'roll', AnswerDouble: 'accept' }[phase] ?? null;
   }
 
   /** One connection, up to its end. */
   async converse(host, port) {
     const server = connect(port, host, () => server.write(this.client.open(), 'latin1'));
+    this.events.open();
     // whatever ends it, it is over
     const ended = new Promise((resolve) => server.on('error', () => {}).on('close', resolve));
     server.on('data', (piece) => {
+      if (this.events.hearBytes(piece).length > 0) throw new Error('the server refuses the login');
       for (const heard of this.client.feed(piece)) {
         server.write(heard.send, 'latin1');
         for (const line of this.answers(heard)) server.write(line, 'latin1');

@@ -16,12 +16,11 @@ impl Bot {
     fn answer(&mut self, heard: &OwnedHeard) -> Result<(), Box<dyn Error>> {
         let reading = heard.reading();
         if let Reading::Numbered(Message::OwnInfo(_)) = reading {
-            // without points: a match that was saved goes on
+            // without points: a match that was saved goes on; if none is, one that had begun has ended unseen
             self.client.plain(&Plain::Invite(self.opponent.as_bytes(), None))?;
         }
         for event in self.events.hear(&reading)?.inspect(|event| println!("{event:?}")) {
             match event {
-                // the end of the match that had begun was not seen
                 Event::NothingSaved { .. } if !self.events.opponent().is_empty() => self.is_over = true,
                 Event::NothingSaved { .. } => self.client.plain(&Plain::Invite(self.opponent.as_bytes(), Some(3)))?,
                 Event::OfferedToResign { who: Side::Other, .. } => self.client.own_line(b"accept")?,
