@@ -1,4 +1,5 @@
-/* The FIBS library for C and C++: lines, messages, boards, the rules, a client, and the players that the server listed.
+/* The FIBS library for C and C++: lines, messages, boards, the rules, a client, what has happened, and the players that
+ * the server listed.
  *
  * It opens no socket and draws no screen. Bytes of the server go in, and bytes for the server come out:
  *
@@ -35,8 +36,8 @@
  * Both are installed in share/doc/fibs.
  *
  * Handles
- * - fibs_lines, fibs_client and fibs_directory are opaque pointers. A handle begins as NULL, which holds nothing; `new`
- *   makes it hold something, `free` gives the memory back and makes the handle NULL.
+ * - fibs_lines, fibs_client, fibs_events and fibs_directory are opaque pointers. A handle begins as NULL, which holds
+ *   nothing; `new` makes it hold something, `free` gives the memory back and makes the handle NULL.
  * - A function takes the address of a handle, and that address is not null. For a handle that is NULL `free` does
  *   nothing, and each other call but `new` answers FIBS_STATUS_NO_HANDLE, or a reason that its comment lists before it.
  * - An assignment copies the pointer and not what it points to: two handles then refer to one thing. After `free` of
@@ -59,7 +60,7 @@
  * - After any other status nothing was changed, and nothing was written but what the comment says.
  * - FIBS_STATUS_SHORT: the room is too short. The call wrote no byte of it. It says how much is needed, but for
  *   fibs_lines_feed and fibs_client_feed, which always need FIBS_MAX_LINE.
- * - FIBS_STATUS_MEMORY: memory ran out. Only `new`, fibs_plays and fibs_directory_note take memory.
+ * - FIBS_STATUS_MEMORY: memory ran out. Only `new`, fibs_plays, fibs_events_hear and fibs_directory_note take memory.
  * - Each function returns, whatever bytes it is given, and reads and writes nothing else. Flags are 0 or 1.
  */
 #ifndef FIBS_H
@@ -95,6 +96,7 @@ const char *fibs_version(void);
 #define FIBS_MAX_STEPS 4         /* steps of a move */
 #define FIBS_MAX_PLAYS 3060      /* plays of a board */
 #define FIBS_MAX_PLAYERS 4096    /* players of a directory */
+#define FIBS_MAX_EVENTS 7        /* events of one line */
 
 /* FIBS_MAX_LINE, as the library has it. */
 size_t fibs_max_line(void);
@@ -501,6 +503,88 @@ fibs_status fibs_client_shown_line(fibs_client *client, char *text, size_t room,
 
 /* The decision that waits, with its board. NO_HANDLE; NOTHING_WAITS. */
 fibs_status fibs_client_waiting(fibs_client *client, fibs_outstanding *waiting);
+
+/* ---- What has happened ---- */
+
+/* What the lines of a client or of a saved session say has happened, as values: so no program compares a text of the
+ * server. Boards decide before texts, and what comes again says nothing new. */
+typedef struct fibs_events_held *fibs_events;
+
+/* The kinds of events, with the members of fibs_event that they have beside `kind`. */
+enum {
+    FIBS_EVENT_NONE = 0,
+    FIBS_EVENT_LOGGED_IN = 1,             /* the server has greeted the user. name: the user */
+    FIBS_EVENT_INVITED = 2,               /* to a new match. name: who invites; length */
+    FIBS_EVENT_INVITED_TO_RESUME = 3,     /* to a match that was saved. name: who invites */
+    FIBS_EVENT_JOINED = 4,                /* a match begins. name: the opponent; length */
+    FIBS_EVENT_RESUMED = 5,               /* a match goes on that was saved. name: the opponent */
+    FIBS_EVENT_GAME_BEGUN = 6,            /* name: the opponent */
+    FIBS_EVENT_ROLLED = 7,                /* who, dice */
+    FIBS_EVENT_PLAYED = 8,                /* who; play: a move, in the numbering of who has played */
+    FIBS_EVENT_CANNOT_MOVE = 9,           /* a side has rolled, and can't move. who */
+    FIBS_EVENT_DOUBLED = 10,              /* a side offers a double. who */
+    FIBS_EVENT_ACCEPTED = 11,             /* a side has accepted the offer of the other. who, offer */
+    FIBS_EVENT_REJECTED = 12,             /* a side has rejected a double, which ends the game. who */
+    FIBS_EVENT_OFFERED_TO_RESIGN = 13,    /* who, points, worth */
+    FIBS_EVENT_DECLINED = 14,             /* a side has declined that the other resigns. who */
+    FIBS_EVENT_GAME_OVER = 15,            /* who: the winner; points, worth */
+    FIBS_EVENT_NEXT_GAME = 16,            /* the next game of the match waits for `join` */
+    FIBS_EVENT_MATCH_OVER = 17,           /* who: the winner; length, score */
+    FIBS_EVENT_LEFT = 18,                 /* the match was left, and is saved. who has left it */
+    FIBS_EVENT_NOT_PLAYING = 19,          /* the user plays in no match */
+    FIBS_EVENT_RATING_CHANGED = 20,       /* who, rating, experience */
+    FIBS_EVENT_NOTHING_SAVED = 21,        /* no match was saved. name: with whom */
+    FIBS_EVENT_REFUSED = 22               /* the server has refused a decision: the line says why */
+};
+
+/* The name of a kind of events, such as `cannot_move`, as `fibs show --json --events` prints it; of FIBS_EVENT_NONE
+ * `none`; the empty text if there is no such kind. */
+const char *fibs_event_name(uint8_t kind);
+
+/* The sides, the offers, and what a game is worth, as events have them. */
+enum { FIBS_SIDE_NONE = 0, FIBS_SIDE_PLAYER = 1, FIBS_SIDE_OPPONENT = 2 };
+enum { FIBS_OFFER_NONE = 0, FIBS_OFFER_DOUBLE = 1, FIBS_OFFER_RESIGNATION = 2 };
+enum { FIBS_WORTH_UNKNOWN = 0, FIBS_WORTH_SINGLE = 1, FIBS_WORTH_GAMMON = 2, FIBS_WORTH_BACKGAMMON = 3 };
+
+typedef struct fibs_name {
+    size_t len;                /* at most FIBS_MAX_NAME; 0 if there is none. What follows so many bytes is zeros */
+    char bytes[64];
+} fibs_name;
+
+/* Something that has happened. What an event of its kind does not have is 0. */
+typedef struct fibs_event {
+    uint64_t experience;       /* points of the matches that the side has played */
+    fibs_name name;
+    uint32_t points;           /* offered, or won */
+    uint32_t length;           /* how many points a match is to; 9999 if it is unlimited */
+    uint32_t score[2];         /* the points of the user, and of the opponent */
+    uint32_t rating;           /* in hundredths */
+    fibs_decision play;        /* of the kind MOVE, with at least one step; else of the kind NONE */
+    uint8_t kind;              /* one of FIBS_EVENT_.. */
+    uint8_t who;               /* one of FIBS_SIDE_.. */
+    uint8_t worth;             /* one of FIBS_WORTH_..: UNKNOWN if no board has shown the cube */
+    uint8_t offer;             /* one of FIBS_OFFER_.. */
+    uint8_t dice[2];
+} fibs_event;
+
+typedef struct fibs_happened {
+    size_t count;              /* how many events there are: at most FIBS_MAX_EVENTS, often none */
+    fibs_event events[7];      /* in the order in which they happened; those after count are of the kind NONE */
+} fibs_happened;
+
+/* Makes events of a stream of which nothing was heard. HELD; MEMORY. */
+fibs_status fibs_events_new(fibs_events *events);
+
+/* Gives the memory back, and makes the handle NULL. */
+void fibs_events_free(fibs_events *events);
+
+/* Hears a line, and gives what has happened by it. Hear each line once, in order, over connections too, since a match
+ * goes on after one is lost; leave out lines that were cut. NO_HANDLE; MEMORY. */
+fibs_status fibs_events_hear(fibs_events *events, const char *line, size_t len, fibs_happened *happened);
+
+/* The opponent of the match that is played, or was played last: at most FIBS_MAX_NAME bytes, 0 if none is known.
+ * NO_HANDLE; SHORT, and *len is set. */
+fibs_status fibs_events_opponent(fibs_events *events, char *text, size_t room, size_t *len);
 
 /* ---- The players that the server listed ---- */
 

@@ -22,6 +22,11 @@ static const char *const phases[] = {
 static const char *const decisions[] = {
     "None", "Roll", "Double", "Accept", "Reject", "Move", "ResignNormal", "ResignGammon", "ResignBackgammon"
 };
+static const char *const events[] = {
+    "none", "logged_in", "invited", "invited_to_resume", "joined", "resumed", "game_begun", "rolled", "played",
+    "cannot_move", "doubled", "accepted", "rejected", "offered_to_resign", "declined", "game_over", "next_game",
+    "match_over", "left", "not_playing", "rating_changed", "nothing_saved", "refused"
+};
 
 #define COUNT(table) (sizeof(table) / sizeof(table)[0])
 
@@ -63,4 +68,8 @@ const char *fibs_decision_name(uint8_t kind) {
 
 const char *fibs_phase_name(uint8_t phase) {
     return name_at(phases, COUNT(phases), phase);
+}
+
+const char *fibs_event_name(uint8_t kind) {
+    return name_at(events, COUNT(events), kind);
 }

@@ -22,7 +22,8 @@ RECORDS = {'LinesHandle': 'fibs_lines', 'ClientHandle': 'fibs_client', 'Director
            'FedLine': 'fibs_fed', 'LineKind': 'fibs_kind', 'ToldLine': 'fibs_line', 'Told': 'fibs_told',
            'BoardRecord': 'fibs_board', 'FieldRecord': 'fibs_field', 'PlayStep': 'fibs_step',
            'DecisionRecord': 'fibs_decision', 'WireRecord': 'fibs_wire', 'OutstandingRecord': 'fibs_outstanding',
-           'Heard': 'fibs_heard', 'PartRecord': 'fibs_part', 'PlayerRecord': 'fibs_player'}
+           'Heard': 'fibs_heard', 'PartRecord': 'fibs_part', 'PlayerRecord': 'fibs_player', 'EventsHandle': 'fibs_events',
+           'NameRecord': 'fibs_name', 'EventRecord': 'fibs_event', 'HappenedRecord': 'fibs_happened'}
 
 NUMBERS = {'u8': 'uint8_t', 'u16': 'uint16_t', 'u32': 'uint32_t', 'u64': 'uint64_t', 'i32': 'int32_t',
            'usize': 'size_t', 'bool': 'bool', '*mut u8': 'void *'}
@@ -40,7 +41,8 @@ def c_type(rust):
     rust = rust.strip()
     array = re.fullmatch(r'\[(.+); (\d+)\]', rust)
     if array:
-        return '%s[%s]' % ('char' if array[1] == 'u8' else c_type(array[1]), array[2])
+        # bytes of a text are chars, two dice are numbers
+        return '%s[%s]' % ('char' if array[1] == 'u8' and array[2] != '2' else c_type(array[1]), array[2])
     return NUMBERS.get(rust) or RECORDS[rust]
 
 
@@ -155,6 +157,22 @@ BOARD = {'LENGTH': 4, 'SCORE': 5, 'OPPONENT_SCORE': 6, 'PLACES': 7, 'TURN': 33, 
          'FORCED_MOVE': 51, 'DID_CRAWFORD': 52, 'REDOUBLES': 53, 'NUMBERS': 54}
 
 
+def of_events():
+    """The numbers of events, and of what they have."""
+    path = 'fibs_c/src/records/events.rt'
+    kinds = numbers_of(path, r'Event::(\w+)(?: \{[^}]*\})? => \w+\((\d+)[,)]')
+    kinds.update((screaming(name), number) for name, number in re.findall(
+        r'ensures \{ IsEvent result \(E\.(\w+) [^\n]*\n\{\n    let mut told = of_side\((\d+),',
+        (ROOT / 'crates' / path).read_text()))
+    sides = numbers_of(path, r'Side::(\w+) => (\d),')
+    worths = numbers_of(path, r'Some\(Stake::(\w+)\) => (\d),')
+    return {'EVENT': {'NONE': 0, **{name: int(number) for name, number in kinds.items()}},
+            'SIDE': {'NONE': 0, 'PLAYER': sides['OWN'], 'OPPONENT': sides['OTHER']},
+            'OFFER': {'NONE': 0, **numbers_of(path, r'Offer::(\w+) => (\d),')},
+            'WORTH': {'UNKNOWN': 0, 'SINGLE': worths['NORMAL'], 'GAMMON': worths['GAMMON'],
+                      'BACKGAMMON': worths['BACKGAMMON']}}
+
+
 def enumerators():
     """The enumerators other than statuses, by the numbers in the library's code."""
     found = {'FIBS_FAULT_NONE': 0, 'FIBS_DECISION_NONE': 0, 'FIBS_KIND_TEXT': 0}
@@ -171,9 +189,18 @@ def enumerators():
         'KIND': numbers_of('fibs_c/src/records/kinds.rt', r'Reading::(Numbered|Board|Malformed)\b.{1,200}?kind: (\d),'),
         'BOARD': {name: field - 4 for name, field in BOARD.items()}}
     families['KIND']['MESSAGE'] = families['KIND'].pop('NUMBERED')
+    families.update(of_events())
     for family, numbers in families.items():
         found.update(('FIBS_%s_%s' % (family, name), number) for name, number in numbers.items())
     return found
+
+
+def names_of_events():
+    """The names of events in JSON, by their numbers in the library."""
+    numbers = of_events()['EVENT']
+    named = dict(re.findall(r'Event::(\w+)(?: \{ \.\. \})? => b"(\w+)"',
+                            (ROOT / 'crates/fibs_json/src/happened.rt').read_text()))
+    return [name for _, name in sorted((numbers[screaming(variant)], name) for variant, name in named.items())]
 
 
 def names_in_c():
@@ -189,7 +216,7 @@ def names_in_c():
     kinds.update((int(n), name) for n, name in re.findall(r'(\d) => Some\(Decision::(\w+)[,()]', decisions))
     kinds.update((int(n), 'Resign' + name) for name, n in re.findall(r'Stake::(\w+) => (\d)', decisions))
     return tables, {'phases': [by_number.get(n, '') for n in range(7)], 'decisions': [kinds[n] for n in range(9)],
-                    'kinds': ['text', 'message', 'board', 'malformed']}
+                    'kinds': ['text', 'message', 'board', 'malformed'], 'events': ['none', *names_of_events()]}
 
 
 def limits_of():
@@ -207,6 +234,7 @@ def limits_of():
         'FIBS_MAX_STATUS_NAME': max(map(len, names)),
         'FIBS_MAX_STEPS': read('crates/fibs_c/src/records/decisions.rt', r'pub steps: \[PlayStep; (\d+)\]'),
         'FIBS_MAX_PLAYS': math.comb(15 + 4 - 1, 4),
+        'FIBS_MAX_EVENTS': read('crates/fibs_events/src/happened.rt', r'const MOST_EVENTS: usize = (\d+);'),
         'FIBS_MAX_PLAYERS': read('crates/fibs_messages/src/directory/directory.rt', r'const MOST_PLAYERS: usize = ([\d_]+);'),
         'FIBS_VERSION': '.'.join(version), 'FIBS_VERSION_MAJOR': int(version[0]),
         'FIBS_VERSION_MINOR': int(version[1]), 'FIBS_VERSION_PATCH': int(version[2])}

@@ -38,6 +38,7 @@ pub const BY_HAND: &[(&str, &str, &str)] = &[
     ("fibs_engine", "standard", ""),
     ("fibs_c", "records/client_handle", "pub use crate::handles::ClientHandle;\n"),
     ("fibs_c", "records/directory_handle", "pub use crate::handles::DirectoryHandle;\n"),
+    ("fibs_c", "records/events_handle", "pub use crate::handles::EventsHandle;\n"),
     ("fibs_c", "records/lines_handle", "pub use crate::handles::LinesHandle;\n"),
     ("fibs_c", "records/loose", ""),
     ("fibs_replay", "play_loop", ""),

@@ -1,6 +1,7 @@
 //! What C holds: pointers to what the library made, and slices that C gives. Written by hand.
 #![allow(unsafe_code)]
 
+use crate::fibs_events::Events;
 use crate::fibs_lines::Lines;
 use crate::fibs_messages::directory::Directory;
 use crate::fibs_session::Client;
@@ -31,6 +32,7 @@ macro_rules! handle {
 
 handle!(ClientHandle, Client);
 handle!(DirectoryHandle, Directory);
+handle!(EventsHandle, Events);
 handle!(LinesHandle, Lines);
 
 /// The items that C has at a place.

@@ -15,14 +15,14 @@
 
 int LLVMFuzzerTestOneInput(const uint8_t *data, size_t size);
 
-/* Which functions are called, as numbers of the switch at the end: all of them, or, if FAMILY is 1 to 4, those of lines,
- * of what a line says and of the rules, of the client, of the directory. */
+/* Which functions are called, as numbers of the switch at the end: all of them, or, if FAMILY is 1 to 5, those of lines,
+ * of what a line says and of the rules, of the client, of the directory, of events. */
 #ifndef FAMILY
 #define FAMILY 0
 #endif
-enum { FUNCTIONS = 46 };
+enum { FUNCTIONS = 50 };
 static const struct { uint8_t first, count; } families[] = {
-    { 0, FUNCTIONS }, { 0, 7 }, { 7, 15 }, { 22, 16 }, { 38, 8 }
+    { 0, FUNCTIONS }, { 0, 7 }, { 7, 15 }, { 22, 16 }, { 38, 8 }, { 46, 4 }
 };
 
 static unsigned long long calls, calls_of[FUNCTIONS];
@@ -172,6 +172,7 @@ static struct handles {
     fibs_lines lines;
     fibs_client client;
     fibs_directory directory;
+    fibs_events events;
 } held;
 
 /* Bytes were handed out. */
@@ -367,7 +368,8 @@ static void call_readings(uint8_t which) {
                 FIBS_MAX_STATUS_NAME);
         must(fibs_max_line() == FIBS_MAX_LINE && fibs_version()[0] != '\0' && fibs_kind_name(one_byte()) != NULL
              && fibs_phase_name(one_byte()) != NULL && fibs_decision_name(one_byte()) != NULL
-             && fibs_fault_name(one_byte()) != NULL && fibs_field_name(one_byte()) != NULL, "names");
+             && fibs_fault_name(one_byte()) != NULL && fibs_field_name(one_byte()) != NULL
+             && fibs_event_name(one_byte()) != NULL, "names");
     }
     free(line.bytes);
     free(other.bytes);
@@ -529,6 +531,47 @@ static void call_directory(uint8_t which) {
     free(text);
 }
 
+static void is_event(const fibs_event *event) {
+    must(event->kind >= FIBS_EVENT_LOGGED_IN && event->kind <= FIBS_EVENT_REFUSED, "an event's kind");
+    must(event->who <= FIBS_SIDE_OPPONENT && event->worth <= FIBS_WORTH_BACKGAMMON
+         && event->offer <= FIBS_OFFER_RESIGNATION && event->dice[0] <= 6 && event->dice[1] <= 6
+         && event->name.len <= FIBS_MAX_NAME, "an event");
+    must((event->kind == FIBS_EVENT_PLAYED) == (event->play.kind == FIBS_DECISION_MOVE && event->play.count > 0),
+         "an event's move");
+    is_decision(&event->play);
+}
+
+static void call_events(uint8_t which) {
+    struct text line = some_text();
+    size_t room;
+    char *text = some_room(&room);
+    fibs_status status;
+    switch (which) {
+    case 0:
+        answered(fibs_events_new(&held.events), NOTHING);
+        break;
+    case 1:
+        if (one_byte() < 16) {
+            fibs_events_free(&held.events);
+            must(held.events == NULL, "free");
+        }
+        break;
+    case 2:
+        is_text(fibs_events_opponent(&held.events, text, room, &out.size), text, room, FIBS_MAX_NAME);
+        break;
+    default:
+        status = fibs_events_hear(&held.events, line.bytes, line.len, &out.happened);
+        if (answered(status, status == FIBS_STATUS_DONE ? HAPPENED : NOTHING)) {
+            must(out.happened.count <= FIBS_MAX_EVENTS, "how many events");
+            for (size_t i = 0; i < out.happened.count; i++) {
+                is_event(&out.happened.events[i]);
+            }
+        }
+    }
+    free(line.bytes);
+    free(text);
+}
+
 int LLVMFuzzerTestOneInput(const uint8_t *data, size_t size) {
     left = data;
     left_len = size;
@@ -542,12 +585,15 @@ int LLVMFuzzerTestOneInput(const uint8_t *data, size_t size) {
             call_readings(which - 7);
         } else if (which < 38) {
             call_client(which - 22);
-        } else {
+        } else if (which < 46) {
             call_directory(which - 38);
+        } else {
+            call_events(which - 46);
         }
     }
     fibs_lines_free(&held.lines);
     fibs_client_free(&held.client);
     fibs_directory_free(&held.directory);
+    fibs_events_free(&held.events);
     return 0;
 }

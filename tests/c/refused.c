@@ -10,6 +10,10 @@
 static const char board[] =
     "board:You:someplayer:3:0:1:0:-2:0:0:0:0:5:0:3:0:0:0:-5:5:0:0:0:-3:0:-5:0:0:0:0:2:0:1:6:2:0:0:1:1:1:0:1:-1:0:"
     "25:0:0:0:0:2:0:0:0";
+/* after 24-18 13-11 */
+static const char after[] =
+    "board:You:someplayer:3:0:1:0:-2:0:0:0:0:5:0:3:0:0:1:-5:4:0:0:0:-3:1:-5:0:0:0:0:1:0:-1:0:0:0:0:1:1:1:0:1:-1:0:"
+    "25:0:0:0:0:0:0:0:0";
 static const char player[] = "5 someplayer mgnu_advanced - 0 0 1912.15 827 8 1040515752 192.168.143.5 3DFiBs -";
 
 /* All calls that take memory, in turn. Whether one was refused. */
@@ -18,6 +22,8 @@ static bool run(long number) {
     fibs_lines lines = NULL;
     fibs_client client = NULL;
     fibs_directory directory = NULL;
+    fibs_events events = NULL;
+    static fibs_happened happened;
     fibs_wire wire = { 0 };
     fibs_decision none = { 0, 0, { { 0, 0 } } };
     size_t count = 77, len = 77;
@@ -44,6 +50,24 @@ static bool run(long number) {
               number);
     }
     before = refused;
+    made = fibs_events_new(&events);
+    check(made == (refused > before ? S(MEMORY) : S(DONE)) && (events != NULL) == (made == S(DONE)), "fibs_events_new",
+          number);
+    /* to find a play, memory is taken: if it is refused the board says the same when it comes again */
+    if (events != NULL) {
+        check(fibs_events_hear(&events, board, strlen(board), &happened) == S(DONE) && happened.count == 1
+              && happened.events[0].kind == FIBS_EVENT_ROLLED, "fibs_events_hear", number);
+        before = refused;
+        happened.count = 77;
+        made = fibs_events_hear(&events, after, strlen(after), &happened);
+        check(made == S(DONE) || (made == S(MEMORY) && refused > before && happened.count == 77), "fibs_events_hear",
+              number);
+        check(made == S(DONE) || fibs_events_hear(&events, after, strlen(after), &happened) == S(DONE),
+              "it is heard again", number);
+        check(happened.count == 1 && happened.events[0].kind == FIBS_EVENT_PLAYED && happened.events[0].play.count == 2,
+              "a play is told", number);
+    }
+    before = refused;
     made = fibs_plays(board, strlen(board), plays, FIBS_MAX_PLAYS, &count);
     /* if room for all plays at once is refused, it may do with less */
     check(made == S(DONE) || (made == S(MEMORY) && refused > before), "fibs_plays", number);
@@ -53,6 +77,7 @@ static bool run(long number) {
     fibs_client_free(&client);
     fibs_directory_free(&directory);
     fibs_directory_free(&directory);
+    fibs_events_free(&events);
     check(live == 0, "a leak", number);
     return refused > 0;
 }

@@ -34,6 +34,8 @@ static void check_handles(void) {
     fibs_lines lines = NULL;
     fibs_client client = NULL;
     fibs_directory directory = NULL;
+    fibs_events events = NULL;
+    fibs_happened happened = { 0 };
     fibs_fed fed = { 0 };
     fibs_told told = { 0 };
     fibs_heard heard = { 0 };
@@ -71,11 +73,14 @@ static void check_handles(void) {
         check(fibs_directory_field(&directory, 0, 1, &field, text, sizeof text) == S(NO_HANDLE), "field of none");
         check(fibs_directory_field_of(&directory, TEXT("a"), 1, &field, text, sizeof text) == S(NO_HANDLE),
               "field of none");
+        check(fibs_events_hear(&events, TEXT("6"), &happened) == S(NO_HANDLE), "hear of none");
+        check(fibs_events_opponent(&events, text, sizeof text, &len) == S(NO_HANDLE), "opponent of none");
         fibs_lines_free(&lines);
         fibs_client_free(&client);
         fibs_directory_free(&directory);
+        fibs_events_free(&events);
         check(fibs_lines_new(&lines) == S(DONE) && fibs_client_new(&client, TEXT("ann"), TEXT("secret")) == S(DONE)
-              && fibs_directory_new(&directory) == S(DONE), "all are made");
+              && fibs_directory_new(&directory) == S(DONE) && fibs_events_new(&events) == S(DONE), "all are made");
         check(fibs_client_open(&client, &wire) == S(DONE) && wire.len == 35
               && memcmp(wire.bytes, "login fibs_client 1008 ann secret\r\n", 35) == 0, "the login");
         /* made twice: the first one stays */
@@ -86,14 +91,16 @@ static void check_handles(void) {
         check(fibs_client_ordered(&client, &ordered) == S(DONE) && ordered == 1
               && fibs_client_withdraw_roll(&client) == S(DONE), "it is in force until it is withdrawn");
         check(fibs_client_ordered(&client, &ordered) == S(DONE) && ordered == 0, "and no longer");
-        check(fibs_lines_new(&lines) == S(HELD) && fibs_directory_new(&directory) == S(HELD),
-              "the others are held");
+        check(fibs_lines_new(&lines) == S(HELD) && fibs_directory_new(&directory) == S(HELD)
+              && fibs_events_new(&events) == S(HELD), "the others are held");
         fibs_lines_free(&lines);
         fibs_lines_free(&lines);
         fibs_client_free(&client);
         fibs_client_free(&client);
         fibs_directory_free(&directory);
         fibs_directory_free(&directory);
+        fibs_events_free(&events);
+        fibs_events_free(&events);
     }
 }
 

@@ -4,6 +4,7 @@
 #include "outs.h"
 
 #include <stdbool.h>
+#include <stddef.h>
 #include <stdio.h>
 
 static int passed, failed;
@@ -57,6 +58,10 @@ static const char theirs[] =
 static const char turned[] =
     "board:You:someplayer:3:1:0:0:-2:0:0:0:0:5:0:3:0:0:0:-5:5:0:0:0:-3:0:-5:0:0:0:0:2:0:-1:6:2:0:0:1:1:1:0:-1:1:"
     "25:0:0:0:0:0:0:0:0:0";
+/* after 24-18 13-11 the opponent has rolled 4 and 1 */
+static const char theirs_moved[] =
+    "board:You:someplayer:3:0:1:0:-2:0:0:0:0:5:0:3:0:0:1:-5:4:0:0:0:-3:1:-5:0:0:0:0:1:0:-1:0:0:4:1:1:1:1:0:1:-1:"
+    "0:25:0:0:0:0:0:0:0:0";
 static const char watched[] =
     "board:bob:someplayer:3:0:1:0:-2:0:0:0:0:5:0:3:0:0:0:-5:5:0:0:0:-3:0:-5:0:0:0:0:2:0:1:6:2:0:0:1:1:1:0:1:-1:0:"
     "25:0:0:0:0:2:0:0:0";
@@ -479,6 +484,69 @@ static void check_directory(void) {
     }
 }
 
+/* No byte of the rest of an event is that of another one. */
+static void check_event(const fibs_event *event) {
+    bool is_move = event->kind == FIBS_EVENT_PLAYED;
+    check(event->name.len <= FIBS_MAX_NAME, "a name's length");
+    for (size_t i = event->name.len; i < FIBS_MAX_NAME; i++) {
+        check(event->name.bytes[i] == 0, "what follows a name is zeros");
+    }
+    check(event->play.kind == (is_move ? FIBS_DECISION_MOVE : FIBS_DECISION_NONE)
+          && (event->play.count > 0) == is_move, "the move of an event");
+}
+
+static void check_events(void) {
+    static const fibs_event nothing;
+    fibs_events events = NULL;
+    for (int round = 0; round < 2; round++) {
+        is("hear of none", S(NO_HANDLE), fibs_events_hear(&events, T(player), &out.happened), NOTHING);
+        is("opponent of none", S(NO_HANDLE),
+           fibs_events_opponent(&events, out.text, sizeof out.text, &out.size), NOTHING);
+        is("new", S(DONE), fibs_events_new(&events), NOTHING);
+        is("no opponent", S(DONE), fibs_events_opponent(&events, NULL, 0, &out.size), SIZE);
+        is("a text that says nothing", S(DONE), fibs_events_hear(&events, T("hello"), &out.happened), HAPPENED);
+        is("the empty line", S(DONE), fibs_events_hear(&events, NULL, 0, &out.happened), HAPPENED);
+        fibs_events_hear(&events, T("1 ann 1041253132 localhost"), &out.happened);
+        const fibs_event *first = &out.happened.events[0];
+        check(out.happened.count == 1 && first->kind == FIBS_EVENT_LOGGED_IN && first->name.len == 3
+              && memcmp(first->name.bytes, "ann", 3) == 0 && first->who == FIBS_SIDE_NONE, "a greeting");
+        check_event(first);
+        for (size_t i = 1; i < FIBS_MAX_EVENTS; i++) {
+            check(memcmp(&out.happened.events[i], &nothing, offsetof(fibs_event, dice) + 2) == 0, "no further event");
+        }
+        is("a greeting", 0, 0, HAPPENED);
+        is("new of some", S(HELD), fibs_events_new(&events), NOTHING);
+        fibs_events_hear(&events, T("** Player someplayer has joined you for a 3 point match."), &out.happened);
+        check(out.happened.count == 1 && first->kind == FIBS_EVENT_JOINED && first->length == 3, "a match");
+        fill();
+        is("no room for a name", S(SHORT), fibs_events_opponent(&events, out.text, 9, &out.size), SIZE);
+        fibs_events_opponent(&events, out.text, 10, &out.size);
+        check(out.size == 10 && memcmp(out.text, "someplayer", 10) == 0
+              && memcmp(out.text + 10, pattern.text + 10, sizeof out.text - 10) == 0, "just the name is written");
+        is("the opponent", 0, 0, TEXT | SIZE);
+        fibs_events_hear(&events, T(to_roll), &out.happened);
+        check(out.happened.count == 0, "a board that shows no roll");
+        fibs_events_hear(&events, T(board), &out.happened);
+        check(out.happened.count == 1 && first->kind == FIBS_EVENT_ROLLED && first->who == FIBS_SIDE_PLAYER
+              && first->dice[0] == 6 && first->dice[1] == 2 && first->name.len == 0, "a roll");
+        check_event(first);
+        fibs_events_hear(&events, T(board), &out.happened);
+        check(out.happened.count == 0, "it is told once");
+        fibs_events_hear(&events, T(theirs_moved), &out.happened);
+        check(out.happened.count == 2 && first->kind == FIBS_EVENT_PLAYED && first->who == FIBS_SIDE_PLAYER
+              && first->play.count == 2 && first->play.steps[0].source == 24 && first->play.steps[0].target == 18
+              && first->play.steps[1].source == 13 && first->play.steps[1].target == 11
+              && first[1].kind == FIBS_EVENT_ROLLED && first[1].who == FIBS_SIDE_OPPONENT && first[1].dice[0] == 4,
+              "a play, and the answer's roll");
+        check_event(first);
+        check_event(first + 1);
+        fill();
+        fibs_events_free(&events);
+        check(events == NULL, "free makes the handle null");
+        fibs_events_free(&events);
+    }
+}
+
 int main(void) {
     fill();
     check_names();
@@ -487,6 +555,7 @@ int main(void) {
     check_rules();
     check_client();
     check_directory();
+    check_events();
     printf("%d passed, %d failed\n", passed, failed);
     return failed > 0;
 }

@@ -2,6 +2,7 @@
 pub mod ClientLemmas
 pub mod ManyLinesLemmas
 pub mod PlayerLemmas
+pub mod EventLemmas
 -- Why what is put into a record is the value.
 pub mod LooseValues
 pub mod HandleValues

@@ -12,6 +12,7 @@ pub mod OwnLineDoor
 pub mod FeedDoor
 pub mod DirectoryDoor
 pub mod PlayerDoor
+pub mod EventsDoor
 -- What only private functions and proofs say.
 pub mod ReadingOn
 -- What C sees: records, statuses, handles and the wire.

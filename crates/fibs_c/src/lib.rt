@@ -23,6 +23,7 @@ mod boards;
 mod client;
 mod directory;
 mod effects;
+mod events;
 mod feeding;
 mod lines;
 mod many_lines;

@@ -5,6 +5,8 @@ pub mod boards;
 mod client_handle;
 pub mod decisions;
 mod directory_handle;
+pub mod events;
+mod events_handle;
 pub mod fields;
 pub mod kinds;
 pub mod laws;
@@ -17,4 +19,5 @@ pub mod wire;
 
 pub use client_handle::ClientHandle;
 pub use directory_handle::DirectoryHandle;
+pub use events_handle::EventsHandle;
 pub use lines_handle::LinesHandle;
