@@ -7,15 +7,17 @@
 
 It uses only the library for C of Liftplum, whose functions are proved, and the standard library. What a server
 sends is bytes; a text of your own may also be a str. A call that can't be done raises an Error, one for each reason.
-The package has no thread and no socket of its own. Use each Client, Lines and Directory from one thread at a time.
+The package has no thread and no socket of its own. Use each Client, Lines, Events and Directory from one thread at a
+time.
 """
 
-from . import _library, messages
+from . import _library, events, messages
 from ._boards import Board, Phase, allows, phase, plays, print_board, refusal
 from ._client import Client, Heard, Outstanding
 from ._decisions import (ACCEPT, DOUBLE, REJECT, RESIGN_BACKGAMMON, RESIGN_GAMMON, RESIGN_NORMAL, ROLL, Decision,
                          DecisionKind, Step)
 from ._directory import Directory
+from ._events import Events
 from ._lines import Counts, Fault, Kind, Line, Lines, Stream, fields, read
 from .errors import (AlreadyOpen, AlreadyOrdered, BadCommand, BadName, BadText, Closed, Error, FieldBadName,
                      FieldExtra, FieldMissing, FieldNotANumber, FieldOutOfRange, Full, IllegalPlay, NoBoard,
@@ -37,11 +39,12 @@ __version__ = '0.3.0'
 
 __all__ = [
     'ACCEPT', 'AlreadyOpen', 'AlreadyOrdered', 'BOARD', 'BadCommand', 'BadName', 'BadText', 'Board', 'Client', 'Closed',
-    'Counts', 'DOUBLE', 'Decision', 'DecisionKind', 'Directory', 'Error', 'Fault', 'FieldBadName', 'FieldExtra',
-    'FieldMissing', 'FieldNotANumber', 'FieldOutOfRange', 'Full', 'Heard', 'IllegalPlay', 'Kind', 'Line', 'Lines',
-    'MALFORMED', 'MAX_LINE', 'MESSAGE', 'NoBoard', 'NoCommand', 'NoDecision', 'NoDirection', 'NoEffect', 'NoField',
-    'NoPlayer', 'NoPosition', 'NotABoard', 'NotOn', 'NotOrdered', 'NotReady', 'NotYou', 'NotYours', 'Offline',
-    'Outstanding', 'Phase', 'Player', 'REJECT', 'RESIGN_BACKGAMMON', 'RESIGN_GAMMON', 'RESIGN_NORMAL', 'ROLL',
-    'Refused', 'ServerPlays', 'Step', 'Stream', 'TEXT', 'Taken', 'TooLong', 'TooManyOther', 'TooManyOwn', 'UNLIMITED',
-    'Waiting', 'WrongKind', 'allows', 'fields', 'messages', 'phase', 'plays', 'print_board', 'read', 'refusal',
+    'Counts', 'DOUBLE', 'Decision', 'DecisionKind', 'Directory', 'Error', 'Events', 'Fault', 'FieldBadName',
+    'FieldExtra', 'FieldMissing', 'FieldNotANumber', 'FieldOutOfRange', 'Full', 'Heard', 'IllegalPlay', 'Kind', 'Line',
+    'Lines', 'MALFORMED', 'MAX_LINE', 'MESSAGE', 'NoBoard', 'NoCommand', 'NoDecision', 'NoDirection', 'NoEffect',
+    'NoField', 'NoPlayer', 'NoPosition', 'NotABoard', 'NotOn', 'NotOrdered', 'NotReady', 'NotYou', 'NotYours',
+    'Offline', 'Outstanding', 'Phase', 'Player', 'REJECT', 'RESIGN_BACKGAMMON', 'RESIGN_GAMMON', 'RESIGN_NORMAL',
+    'ROLL', 'Refused', 'ServerPlays', 'Step', 'Stream', 'TEXT', 'Taken', 'TooLong', 'TooManyOther', 'TooManyOwn',
+    'UNLIMITED', 'Waiting', 'WrongKind', 'allows', 'events', 'fields', 'messages', 'phase', 'plays', 'print_board',
+    'read', 'refusal',
 ]

@@ -1,4 +1,4 @@
-"""What Client, Lines and Directory have in common: each owns something of the library."""
+"""What Client, Lines, Events and Directory have in common: each owns something of the library."""
 
 from __future__ import annotations
 

@@ -133,6 +133,36 @@ class Heard(Structure):
                 ('confirmed', Decision), ('rolled', c_uint8)]
 
 
+class Name(Structure):
+    len: int
+    bytes: Any
+    _fields_ = [('len', c_size_t), ('bytes', c_uint8 * 64)]
+
+
+class Event(Structure):
+    experience: int
+    name: Name
+    points: int
+    length: int
+    score: Any
+    rating: int
+    play: Decision
+    kind: int
+    who: int
+    worth: int
+    offer: int
+    dice: Any
+    _fields_ = [('experience', c_uint64), ('name', Name), ('points', c_uint32), ('length', c_uint32),
+                ('score', c_uint32 * 2), ('rating', c_uint32), ('play', Decision), ('kind', c_uint8), ('who', c_uint8),
+                ('worth', c_uint8), ('offer', c_uint8), ('dice', c_uint8 * 2)]
+
+
+class Happened(Structure):
+    count: int
+    events: Any
+    _fields_ = [('count', c_size_t), ('events', Event * 7)]
+
+
 # A row of many lines, unpacked at once: start, length, the wrong field, kind, number, fault, cut.
 ROW = struct.Struct('=QQQBBB5xB7x')
 
@@ -193,6 +223,10 @@ _FUNCTIONS: dict[str, tuple[Any, list[Any]]] = {
     'fibs_client_lose': (c_uint32, [_HANDLE, POINTER(Outstanding)]),
     'fibs_client_shown_line': (c_uint32, [_HANDLE, *_ROOM, _LENGTH]),
     'fibs_client_waiting': (c_uint32, [_HANDLE, POINTER(Outstanding)]),
+    'fibs_events_new': (c_uint32, [_HANDLE]),
+    'fibs_events_free': (None, [_HANDLE]),
+    'fibs_events_hear': (c_uint32, [_HANDLE, *_DATA, POINTER(Happened)]),
+    'fibs_events_opponent': (c_uint32, [_HANDLE, *_ROOM, _LENGTH]),
     'fibs_directory_new': (c_uint32, [_HANDLE]),
     'fibs_directory_free': (None, [_HANDLE]),
     'fibs_directory_note': (c_uint32, [_HANDLE, *_DATA]),

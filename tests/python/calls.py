@@ -1,7 +1,9 @@
 """Each call of the package: what it answers, and what it raises."""
 
 import copy
+import enum
 import io
+import json
 import multiprocessing
 import os
 import pathlib
@@ -11,6 +13,7 @@ import socket
 import subprocess
 import sys
 import tempfile
+import typing
 import weakref
 
 from props.package import ROOT, fibs
@@ -510,7 +513,7 @@ def lines_of_ones_own_go_past_the_client(counts):
 def handles_are_given_back_once(counts):
     """All that can happen to a value, in a Python that reports every warning."""
     script = """import copy, gc, pickle, fibs
-for make in (lambda: fibs.Client('ann', 'secret'), fibs.Lines, fibs.Directory):
+for make in (lambda: fibs.Client('ann', 'secret'), fibs.Lines, fibs.Directory, fibs.Events):
     for again in copy.copy, copy.deepcopy, pickle.dumps:
         try:
             again(make())
@@ -602,6 +605,113 @@ def players_come_and_go(counts):
         counts.raises(fibs.Closed, call, *words)
 
 
+# Lines, and what each says has happened.
+JOINED = b'** Player bob has joined you for a 3 point match.'
+BEGUN = (b'board:You:bob:3:0:0:0:-2:0:0:0:0:5:0:3:0:0:0:-5:5:0:0:0:-3:0:-5:0:0:0:0:2:0:1:6:3:0:0:1:1:1:0:1:-1:0:25:0:0:'
+         b'0:0:2:0:0:0')
+PLAYED = (b'board:You:bob:3:0:0:0:-2:0:0:0:0:5:0:3:0:1:0:-5:4:0:0:0:-3:1:-5:0:0:0:0:1:0:-1:0:0:4:2:1:1:1:0:1:-1:0:25:0:'
+          b'0:0:0:0:0:0:0')
+PLAYER, OPPONENT = fibs.events.Side.PLAYER, fibs.events.Side.OPPONENT
+HAPPENED = [
+    (b'hello', []),
+    (b'1 ann 1041253132 localhost', [fibs.events.LoggedIn(b'ann')]),
+    (b'bob wants to play an unlimited match with you.', [fibs.events.Invited(b'bob', fibs.UNLIMITED)]),
+    (b'bob wants to resume a saved match with you.', [fibs.events.InvitedToResume(b'bob')]),
+    (b"** There's no saved match with bob. Please give a match length.", [fibs.events.NothingSaved(b'bob')]),
+    (JOINED, [fibs.events.Joined(b'bob', 3)]),
+    (b'Starting a new game with bob.', [fibs.events.GameBegun(b'bob')]),
+    (BEGUN, [fibs.events.Rolled(PLAYER, (6, 3))]),
+    (BEGUN, []),
+    (PLAYED, [fibs.events.Played(PLAYER, ((24, 18), (13, 10))), fibs.events.Rolled(OPPONENT, (4, 2))]),
+    (b"bob can't move.", []),
+    (b'** You have to roll the dice before moving.', [
+        fibs.events.Refused(b'** You have to roll the dice before moving.')]),
+    (b'bob wants to resign. You will win 2 points. Type \'accept\' or \'reject\'.', [
+        fibs.events.OfferedToResign(OPPONENT, 2, fibs.events.Worth.GAMMON)]),
+    (b'You reject. The game continues.', [fibs.events.Declined(PLAYER)]),
+    (b'You double. Please wait for bob to accept or reject.', [fibs.events.Doubled(PLAYER)]),
+    (b'bob accepts the double.', [fibs.events.Accepted(OPPONENT, fibs.events.Offer.DOUBLE)]),
+    (b'bob doubles. Type \'accept\' or \'reject\'.', [fibs.events.Doubled(OPPONENT)]),
+    (b'You give up. bob wins 2 points.', [fibs.events.Rejected(PLAYER)]),
+    (b'bob wins the game and gets 2 points. Sorry.', [fibs.events.GameOver(OPPONENT, 2, fibs.events.Worth.SINGLE)]),
+    (b'Starting a new game with bob.', [fibs.events.GameBegun(b'bob')]),
+    (b'bob wants to resign. You will win 4 points. Type \'accept\' or \'reject\'.', [
+        fibs.events.OfferedToResign(OPPONENT, 4, None)]),
+    (b'You accept and win 4 points.', [fibs.events.Accepted(PLAYER, fibs.events.Offer.RESIGNATION)]),
+    (b'5 bob ann - 1 0 1623.5 100 3 1041253132 host - -', []),
+    (b'5 bob ann - 1 0 1619.27 101 3 1041253132 host - -', [fibs.events.RatingChanged(OPPONENT, 161927, 101)]),
+    (b"Type 'join' if you want to play the next game, type 'leave' if you don't.", [fibs.events.NextGame()]),
+    (b'bob wins the 3 point match 3-0 .', [fibs.events.MatchOver(OPPONENT, 3, (0, 3))]),
+    (b'** Player bob has left the game. The game was saved.', [fibs.events.Left(OPPONENT)]),
+    (b'** You are not playing.', [fibs.events.NotPlaying()]),
+    (b'You are now playing with bob. Your running match was loaded.', [fibs.events.Resumed(b'bob')]),
+]
+
+
+def lines_say_what_has_happened(counts):
+    events = fibs.Events()
+    counts.same(events.opponent, b'', 'no opponent')
+    for line, wanted in HAPPENED:
+        found = events.hear(line)
+        counts.same(found, wanted, '%r' % line)
+        counts.same([type(event) for event in found], [type(event) for event in wanted], 'what it is: %r' % line)
+    counts.same((events.opponent, repr(events)), (b'bob', '<fibs.Events: with bob>'), 'the opponent')
+    counts.same(events.hear(BEGUN.decode()), [fibs.events.Rolled(PLAYER, (6, 3))], 'a board after what was resumed')
+    counts.same(fibs.events.Played(PLAYER, ((24, 18), (13, 10))).play, fibs.Decision.move([(24, 18), (13, 10)]),
+                'a play as a decision')
+    counts.same(events.hear(fibs.Lines().feed(JOINED + b' ' * fibs.MAX_LINE + b'\n')[0]), [], 'a line that was cut')
+    counts.same(events.hear(fibs.read(JOINED)), [fibs.events.Joined(b'bob', 3)], 'one that was not')
+    for wrong in 5, None, [JOINED]:
+        counts.raises(TypeError, events.hear, wrong)
+    events.close()
+    for call in (lambda: events.hear(JOINED), lambda: events.opponent,
+                 lambda: events.hear(fibs.Line(b'', fibs.TEXT, 0, 0, None, True))):
+        counts.raises(fibs.Closed, call)
+
+
+def as_object(event, number):
+    """An event as the program prints it."""
+    name = re.sub(r'(?<!^)(?=[A-Z])', '_', type(event).__name__).lower()
+    told = {'kind': 'event', 'event': name, 'line_number': number}
+    for field, value in event._asdict().items():
+        if field == 'score' and isinstance(value, tuple):
+            told['score'], told['opponent_score'] = value
+        elif field == 'rating':
+            told[field] = value / 100
+        elif isinstance(value, enum.IntEnum):
+            told[field] = value.name.lower()
+        else:
+            told[field] = value.decode('latin-1') if isinstance(value, bytes) else json.loads(json.dumps(value))
+    return told
+
+
+def events_are_those_of_the_program(counts):
+    """A session of two matches, and the worked lines."""
+    if not os.path.exists(counts.program):
+        counts.leave_out('there is no %s' % counts.program)
+        return
+    for session in [(ROOT / 'rust/src/tests/session.txt').read_bytes(), b''.join(line + b'\n' for line, _ in HAPPENED)]:
+        told = subprocess.run([counts.program, 'show', '--events'], input=session, capture_output=True, check=True)
+        wanted = [one for one in map(json.loads, told.stdout.splitlines()) if one['kind'] == 'event']
+        with fibs.Events() as events:
+            found = [as_object(event, number) for number, line in enumerate(fibs.Lines(session), 1)
+                     for event in events.hear(line)]
+        counts.same(len(found), len(wanted), 'how many')
+        for ours, theirs in zip(found, wanted):
+            counts.same(ours, theirs, 'an event')
+
+
+def each_event_of_the_header_has_its_tuple(counts):
+    """In the order of their numbers, with the names of the library."""
+    kinds = re.findall(r'\bFIBS_EVENT_(\w+) = (\d+)', HEADER)
+    counts.same([int(number) for _, number in kinds], list(range(len(fibs.events.KINDS) + 1)), 'their numbers')
+    names = [name for name, value in vars(fibs.events).items()
+             if isinstance(value, type) and issubclass(value, tuple) and value.__module__ == 'fibs.events']
+    counts.same([re.sub(r'(?<!^)(?=[A-Z])', '_', name).upper() for name in names], [name for name, _ in kinds[1:]],
+                'their names')
+    counts.same(len(typing.get_args(fibs.events.Event)), len(names), 'any of them is an Event')
+
+
 def each_status_has_its_exception(counts):
     """By the header: each status but DONE and that of memory, its name, and whether Python knows it as bad input."""
     statuses = {int(number) for number in re.findall(r'\bFIBS_STATUS_\w+ = (\d+)', HEADER)}
@@ -643,7 +753,8 @@ def the_version_is_that_of_the_library(counts):
     counts.check((ROOT / 'lib' / _library.SONAME).exists(), 'the library has it')
 
 
-TESTS = [a_board_after_a_decision, a_board_of_the_other_side, the_end_of_a_match, what_is_unfinished_is_told,
+TESTS = [lines_say_what_has_happened, events_are_those_of_the_program, each_event_of_the_header_has_its_tuple,
+         a_board_after_a_decision, a_board_of_the_other_side, the_end_of_a_match, what_is_unfinished_is_told,
          lines_have_their_kinds, a_line_that_was_cut_says_nothing, a_stream_may_be_anything_that_is_read,
          after_a_break_the_iteration_goes_on, a_path_is_opened_and_closed, pieces_are_fed_by_hand,
          boards_have_names_for_their_numbers,
