@@ -1,6 +1,6 @@
 /* Logs in at a server and plays its first legal play until the match is over: bot HOST PORT NAME [OPPONENT]. The
  * password is the first line of standard input. It invites the opponent to a match of one point; if none is named, it
- * joins who invites it. It accepts each offer to resign.
+ * joins who invites it. It accepts each offer to resign. fibs_events says what has happened: it compares no text.
  *
  * It prints each phase, and each command that it sends except the login. If the connection is lost it opens another,
  * and the game goes on as the server has it. The status is 0 if the match was played out, else 4; it is 4 at once if
@@ -27,6 +27,7 @@ enum { MOST_TRIES = 10, SECONDS = 5 };
 
 struct bot {
     fibs_client client;
+    fibs_events events;
     const char *opponent;
     int server;
     bool has_invited, is_refused, is_over;
@@ -102,19 +103,30 @@ static bool send_own(struct bot *bot, const char *line) {
     return send_wire(bot, &wire, false);
 }
 
-/* Answers a text of the server. */
-static bool answer(struct bot *bot, const char *line, size_t len) {
-    static const char invites[] = " wants to play ", resumes[] = " wants to resume ", resigns[] = " wants to resign.";
-    const char *space = memchr(line, ' ', len);
-    if (space == NULL) {
+/* Answers something that has happened. */
+static bool answer(struct bot *bot, const fibs_event *event) {
+    switch (event->kind) {
+    case FIBS_EVENT_OFFERED_TO_RESIGN:
+        return event->who != FIBS_SIDE_OPPONENT || send_own(bot, "accept");
+    case FIBS_EVENT_INVITED:
+    case FIBS_EVENT_INVITED_TO_RESUME:
+        return bot->opponent != NULL || say(bot, "join", event->name.bytes, event->name.len);
+    default:
         return true;
     }
-    size_t name = (size_t)(space - line), left = len - name;
-#define GOES_ON(text) (left >= sizeof text - 1 && memcmp(space, text, sizeof text - 1) == 0)
-    if (GOES_ON(resigns)) {
-        return send_own(bot, "accept");
+}
+
+/* Answers all that has happened by a line. */
+static bool answer_all(struct bot *bot, const char *line, const fibs_heard *heard) {
+    static fibs_happened happened;
+    if (heard->cut || fibs_events_hear(&bot->events, line, heard->len, &happened) != FIBS_STATUS_DONE) {
+        return true;
     }
-    return bot->opponent != NULL || (!GOES_ON(invites) && !GOES_ON(resumes)) || say(bot, "join", line, name);
+    bool goes_on = true;
+    for (size_t i = 0; i < happened.count && goes_on; i++) {
+        goes_on = answer(bot, &happened.events[i]);
+    }
+    return goes_on;
 }
 
 /* Invites the opponent, as soon as the server knows the bot. */
@@ -193,8 +205,9 @@ static bool hear(struct bot *bot, const char *piece, size_t len) {
             return false;
         }
         bool goes_on = !heard.ended
-            || (heard.kind.kind == FIBS_KIND_BOARD ? play(bot, line, heard.len)
-                : heard.kind.kind == FIBS_KIND_TEXT ? answer(bot, line, heard.len) : invite(bot));
+            || (answer_all(bot, line, &heard)
+                && (heard.kind.kind == FIBS_KIND_BOARD ? play(bot, line, heard.len)
+                    : heard.kind.kind != FIBS_KIND_MESSAGE || invite(bot)));
         if (!goes_on) {
             return false;
         }
@@ -268,11 +281,16 @@ int main(int argc, char **argv) {
     }
     password[strcspn(password, "\r\n")] = '\0';
     fibs_status status = fibs_client_new(&bot.client, argv[3], strlen(argv[3]), password, strlen(password));
+    if (status == FIBS_STATUS_DONE) {
+        status = fibs_events_new(&bot.events);
+    }
     if (status != FIBS_STATUS_DONE) {
         fprintf(stderr, "bot: %s\n", fibs_status_name(status));
+        fibs_client_free(&bot.client);
         return 4;
     }
     bool played = play_match(&bot, argv[1], argv[2]);
     fibs_client_free(&bot.client);
+    fibs_events_free(&bot.events);
     return played ? 0 : 4;
 }

@@ -5,16 +5,16 @@ import os
 import pathlib
 import random
 import re
-import select
 import socket
-import struct
 import subprocess
 import sys
 import tempfile
 import threading
 from collections import Counter
 
+import bots
 import matchfiles
+from props.cutter import Cutter
 from props.package import ROOT, fibs
 
 POINTS = 7
@@ -25,70 +25,12 @@ SERVER = ['--seed', '3', '--mixed-sides', '--portions', '200', '--prompts', '--r
 # Each bot's connection is cut so often, and no more once so many games are over: the end of the match is seen by both.
 MOST_CUTS, MOST_GAMES = 8, 2
 
-DECISIONS = {'roll', 'double', 'accept', 'reject', 'move', 'resign'}
-
-
-class Cutter:
-    """Takes connections on a port of its own and leads them to a server, until it cuts them: within what goes one
-    way, and with a reset or without."""
-
-    def __init__(self, port, seed):
-        self.port_of_server, self.chance = port, random.Random(seed)
-        self.cuts, self.games = 0, 0
-        # the decisions that the player has sent, over all connections
-        self.decisions = []
-        self.listener = socket.create_server(('127.0.0.1', 0))
-        self.port = self.listener.getsockname()[1]
-        threading.Thread(target=self.listen, daemon=True).start()
-
-    def listen(self):
-        while True:
-            try:
-                player, _ = self.listener.accept()
-            except OSError:
-                return
-            with player, socket.create_connection(('127.0.0.1', self.port_of_server)) as server:
-                sent = []
-                self.lead(player, server, sent)
-                *lines, _ = b''.join(sent).decode('latin-1').split('\r\n')
-                self.decisions += [line for line in lines if line.split(' ')[0] in DECISIONS]
-
-    def lead(self, player, server, sent):
-        """Leads bytes both ways, up to the end of the connection. Those of the player are also put in a list."""
-        other = {player: server, server: player}
-        while True:
-            for source in select.select(list(other), [], [])[0]:
-                try:
-                    piece = source.recv(4096)
-                except OSError:
-                    piece = b''
-                if not piece:
-                    return
-                if source is player:
-                    sent.append(piece)
-                else:
-                    self.games += len(re.findall(rb'wins? the game and gets? ', piece))
-                is_cut = self.cuts < MOST_CUTS and self.games < MOST_GAMES and self.chance.random() < 1 / 15
-                try:
-                    other[source].sendall(piece[:self.chance.randrange(len(piece) + 1)] if is_cut else piece)
-                except OSError:
-                    return
-                if is_cut:
-                    self.cuts += 1
-                    if self.chance.random() < 0.5:
-                        for end in other:
-                            end.setsockopt(socket.SOL_SOCKET, socket.SO_LINGER, struct.pack('ii', 1, 0))
-                    return
-
-    def close(self):
-        self.listener.close()
-
 
 class Player:
     """A bot that plays, with its session and what it printed."""
 
     def __init__(self, folder, name, server_port, seed, *words):
-        self.name, self.cutter = name, Cutter(server_port, seed)
+        self.name, self.cutter = name, Cutter(server_port, seed, MOST_CUTS, MOST_GAMES)
         self.session = folder / (name + '.session')
         self.process = subprocess.Popen(
             [sys.executable, '-B', str(ROOT / 'examples' / 'gnubg_bot.py'), '127.0.0.1', str(self.cutter.port), name,
@@ -410,7 +352,12 @@ def what_goes_wrong_is_said(counts):
         server.wait()
 
 
-TESTS = [an_answer_that_is_not_valid_is_not_taken, half_a_line_ends_in_the_file_of_a_session,
-         it_is_in_when_the_server_has_taken_the_login, each_toggle_is_sent_once_on_a_connection,
-         what_goes_wrong_is_said, gnu_backgammon_understands_each_board,
+def the_short_bot_plays_over_connections_that_are_cut(counts):
+    for fault in bots.wrong_with([sys.executable, '-B', str(ROOT / 'examples' / 'short_bot.py')], 4):
+        counts.check(not fault, fault)
+
+
+TESTS = [the_short_bot_plays_over_connections_that_are_cut, an_answer_that_is_not_valid_is_not_taken,
+         half_a_line_ends_in_the_file_of_a_session, it_is_in_when_the_server_has_taken_the_login,
+         each_toggle_is_sent_once_on_a_connection, what_goes_wrong_is_said, gnu_backgammon_understands_each_board,
          a_match_is_played_once_over_connections_that_are_cut]
