@@ -12,13 +12,15 @@ time.
 """
 
 from . import _library, events, messages
-from ._boards import Board, Phase, allows, phase, plays, print_board, refusal
+from ._boards import Board, CubeOwner, Phase, allows, phase, plays, print_board, refusal
 from ._client import Client, Heard, Outstanding
 from ._decisions import (ACCEPT, DOUBLE, REJECT, RESIGN_BACKGAMMON, RESIGN_GAMMON, RESIGN_NORMAL, ROLL, Decision,
                          DecisionKind, Step)
 from ._directory import Directory
 from ._events import Events
 from ._lines import Counts, Fault, Kind, Line, Lines, Stream, fields, read
+from ._saved import SavedMatch, saved_match
+from ._turn import NextStep, Turn
 from .errors import (AlreadyOpen, AlreadyOrdered, BadCommand, BadName, BadText, Closed, Error, FieldBadName,
                      FieldExtra, FieldMissing, FieldNotANumber, FieldOutOfRange, Full, IllegalPlay, NoBoard,
                      NoCommand, NoDecision, NoDirection, NoEffect, NoField, NoPlayer, NoPosition, NotABoard, NotOn,
@@ -39,12 +41,12 @@ __version__ = '0.3.0'
 
 __all__ = [
     'ACCEPT', 'AlreadyOpen', 'AlreadyOrdered', 'BOARD', 'BadCommand', 'BadName', 'BadText', 'Board', 'Client', 'Closed',
-    'Counts', 'DOUBLE', 'Decision', 'DecisionKind', 'Directory', 'Error', 'Events', 'Fault', 'FieldBadName',
-    'FieldExtra', 'FieldMissing', 'FieldNotANumber', 'FieldOutOfRange', 'Full', 'Heard', 'IllegalPlay', 'Kind', 'Line',
-    'Lines', 'MALFORMED', 'MAX_LINE', 'MESSAGE', 'NoBoard', 'NoCommand', 'NoDecision', 'NoDirection', 'NoEffect',
-    'NoField', 'NoPlayer', 'NoPosition', 'NotABoard', 'NotOn', 'NotOrdered', 'NotReady', 'NotYou', 'NotYours',
-    'Offline', 'Outstanding', 'Phase', 'Player', 'REJECT', 'RESIGN_BACKGAMMON', 'RESIGN_GAMMON', 'RESIGN_NORMAL',
-    'ROLL', 'Refused', 'ServerPlays', 'Step', 'Stream', 'TEXT', 'Taken', 'TooLong', 'TooManyOther', 'TooManyOwn',
-    'UNLIMITED', 'Waiting', 'WrongKind', 'allows', 'events', 'fields', 'messages', 'phase', 'plays', 'print_board',
-    'read', 'refusal',
+    'Counts', 'CubeOwner', 'DOUBLE', 'Decision', 'DecisionKind', 'Directory', 'Error', 'Events', 'Fault',
+    'FieldBadName', 'FieldExtra', 'FieldMissing', 'FieldNotANumber', 'FieldOutOfRange', 'Full', 'Heard', 'IllegalPlay',
+    'Kind', 'Line', 'Lines', 'MALFORMED', 'MAX_LINE', 'MESSAGE', 'NextStep', 'NoBoard', 'NoCommand', 'NoDecision',
+    'NoDirection', 'NoEffect', 'NoField', 'NoPlayer', 'NoPosition', 'NotABoard', 'NotOn', 'NotOrdered', 'NotReady',
+    'NotYou', 'NotYours', 'Offline', 'Outstanding', 'Phase', 'Player', 'REJECT', 'RESIGN_BACKGAMMON', 'RESIGN_GAMMON',
+    'RESIGN_NORMAL', 'ROLL', 'Refused', 'SavedMatch', 'ServerPlays', 'Step', 'Stream', 'TEXT', 'Taken', 'TooLong',
+    'TooManyOther', 'TooManyOwn', 'Turn', 'UNLIMITED', 'Waiting', 'WrongKind', 'allows', 'events', 'fields', 'messages',
+    'phase', 'plays', 'print_board', 'read', 'refusal', 'saved_match',
 ]

@@ -10,6 +10,7 @@ from ._decisions import Decision, decision_of, record_of
 from ._texts import Text, Word, bytes_of, number_of, told, told_text
 from .errors import Refused, TooManyOther, TooManyOwn, check, check_board
 
+
 class Phase(Word):
     """What a player may do on a board."""
 
@@ -19,6 +20,15 @@ class Phase(Word):
     ROLL_OR_DOUBLE = 4
     MOVE = 5
     PASSING = 6
+
+
+class CubeOwner(Word):
+    """Who may double next."""
+
+    NOBODY = 0
+    PLAYER = 1
+    OPPONENT = 2
+    MIDDLE = 3
 
 
 def _fields_of(record: Any) -> Tuple[bytes, bytes, Tuple[int, ...]]:
@@ -150,6 +160,43 @@ class Board:
     def opponent_checkers(self) -> Tuple[int, ...]:
         """The opponent's checkers by place, in the opponent's own numbers: off at 0, the bar at 25. TooManyOther."""
         return self._side(-self.colour, self.direction == -1, self.opponent_off, TooManyOther)
+
+    @property
+    def pips(self) -> Tuple[int, int]:
+        """How many pips the player and the opponent have to go. TooManyOwn; TooManyOther."""
+        own, other = self.checkers, self.opponent_checkers
+        return (sum(place * count for place, count in enumerate(own)),
+                sum(place * count for place, count in enumerate(other)))
+
+    @property
+    def cube_owner(self) -> CubeOwner:
+        """Whose the cube is: who may double next. A side that has just redoubled keeps it until that is answered."""
+        if self.may_double:
+            return CubeOwner.MIDDLE if self.opponent_may_double else CubeOwner.PLAYER
+        is_opponents = self.opponent_may_double or self.was_doubled and self.cube > 1
+        return CubeOwner.OPPONENT if is_opponents else CubeOwner.NOBODY
+
+    @property
+    def crawford(self) -> bool:
+        """True if the game is that of the Crawford rule, in which nobody doubles: one side alone has one point to go,
+        neither side may double, and the cube was not turned."""
+        near = [1 < self.length < 9999 and score == self.length - 1 for score in (self.score, self.opponent_score)]
+        is_quiet = self.cube == 1 and not self.was_doubled and self.cube_owner == CubeOwner.NOBODY
+        return near[0] != near[1] and is_quiet
+
+    @property
+    def is_others(self) -> bool:
+        """True if it is a board of a game that the user watches. It has no position on which he plays (NotYou)."""
+        return self.player != b'You'
+
+    @property
+    def seen(self) -> Board:
+        """The board as its player sees it, whose phase and plays are then those of that player; a board of the user's
+        own game as it is."""
+        if not self.is_others:
+            return self
+        head, _, rest = self.line.split(b':', 2)
+        return Board._said(b':'.join([head, b'You', rest]))
 
     def _side(self, colour: int, is_up: bool, off: int, fault: type) -> Tuple[int, ...]:
         first = 8 - _library.FIRST_FIELD

@@ -188,8 +188,8 @@ class Refused(NamedTuple):
 
 # Any event.
 Event = Union[LoggedIn, Invited, InvitedToResume, Joined, Resumed, GameBegun, Rolled, Played, CannotMove, Doubled,
-              Accepted, Rejected, OfferedToResign, Declined, GameOver, NextGame, MatchOver, Left, NotPlaying, RatingChanged,
-              NothingSaved, Refused]
+              Accepted, Rejected, OfferedToResign, Declined, GameOver, NextGame, MatchOver, Left, NotPlaying,
+              RatingChanged, NothingSaved, Refused]
 
 
 def _who(told: Any) -> Side:

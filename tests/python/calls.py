@@ -3,6 +3,7 @@
 import copy
 import enum
 import io
+import itertools
 import json
 import multiprocessing
 import os
@@ -17,6 +18,7 @@ import typing
 import weakref
 
 from props.package import ROOT, fibs
+from props.table import TURNS
 from fibs import _library, errors
 
 HEADER = (ROOT / 'include' / 'fibs.h').read_text()
@@ -34,6 +36,15 @@ WHO = [b'5 ann bob - 1 0 1500.00 10 0 1041253132 localhost fibs_client -',
        b'5 bob ann - 1 0 1623.5 100 3 1041253132 host - -']
 
 KINDS = [fibs.MESSAGE, fibs.MALFORMED, fibs.TEXT, fibs.BOARD]
+
+
+def board_with(own, other, dice, side, down):
+    """The board of these checkers, for a player of this colour and direction; the rest are off. Place 25 is the bar."""
+    places = [side * (own[place] - other[place]) for place in range(1, 25)]
+    turn = [side, *dice, 0, 0, 1, 1, 1, 0, side, -1 if down else 1, 0, 25]
+    off = [15 - sum(own[1:]), 15 - sum(other[1:25])]
+    fields = [0, *(places if down else reversed(places)), 0, *turn, *off, 0, 0, 0, 0, 0, 0]
+    return b'board:You:bob:5:0:0:' + b':'.join(b'%d' % number for number in fields)
 
 
 def lines_have_their_kinds(counts):
@@ -605,6 +616,95 @@ def players_come_and_go(counts):
         counts.raises(fibs.Closed, call, *words)
 
 
+def sequences(turn):
+    """All that can be played step by step from a turn, as it is, with the listed play of each; the turn is then as it
+    was."""
+    taken = tuple((step.source, step.target) for step in turn.taken)
+    found = {taken: turn.play} if turn.play and not turn.next else {}
+    for step in turn.next:
+        turn.take(*step[:3])
+        found.update(sequences(turn))
+        turn.undo()
+    return found
+
+
+def by_hand(board):
+    """All that is allowed on a board with two dice that differ, of as many steps as a listed play has."""
+    found = set()
+    count = len(board.plays()[0].steps)
+    for dice in itertools.permutations(board.dice, count):
+        for sources in itertools.product(range(1, 26), repeat=count):
+            steps = tuple((source, max(source - die, 0)) for source, die in zip(sources, dice))
+            if board.allows(fibs.Decision.move(steps)):
+                found.add(steps)
+    return found
+
+
+def turns_go_on_to_legal_plays(counts):
+    for row in TURNS:
+        board = fibs.Board(board_with(row.own, row.other, row.dice, 1, True))
+        if board.phase != fibs.Phase.MOVE:
+            counts.raises(fibs.WrongKind if row.dice == (0, 0) else fibs.NotYours, fibs.Turn, board)
+            continue
+        turn = fibs.Turn(board)
+        found = sequences(turn)
+        counts.same(set(found.values()), set(board.plays()), '%s: each listed play is reached' % row.name)
+        counts.check(all(board.allows(fibs.Decision.move(steps)) for steps in found), '%s: each is legal' % row.name)
+        if row.dice[0] != row.dice[1] and 0 not in row.dice:
+            counts.same(set(found), by_hand(board), '%s: all that are legal' % row.name)
+        for steps, play in found.items():
+            after = board.after(fibs.Decision.move(steps))
+            counts.check((after.checkers, after.opponent_checkers) == (board.after(play).checkers,
+                                                                       board.after(play).opponent_checkers),
+                         '%s: the listed play leads to the same' % row.name)
+        for wrong in (0, 0), (25, 1), (1, 24):
+            if not any(step[:2] == wrong for step in turn.next):
+                counts.raises(fibs.IllegalPlay, turn.take, *wrong)
+
+
+def a_turn_says_what_is_left(counts):
+    turn = fibs.Turn(fibs.Board(BEGUN))
+    counts.same((turn.dice, turn.play, turn.taken, repr(turn)), ((3, 6), None, [], '<fibs.Turn: no step>'), 'a turn')
+    counts.same(turn.next[0], fibs.NextStep(24, 21, 3, False), 'the first step')
+    counts.same(turn.take(24, 18), fibs.NextStep(24, 18, 6, False), 'a step')
+    counts.same((turn.dice, turn.checkers[18], turn.opponent_checkers[24]), ((3,), 1, 2), 'what is left')
+    turn.take(13, 10)
+    counts.same((turn.next, str(turn.play), repr(turn)), ([], '24/18 13/10', '<fibs.Turn: 24/18 13/10>'), 'a play')
+    counts.same((turn.undo().source, turn.undo().source, turn.undo(), turn.dice), (13, 24, None, (3, 6)), 'undone')
+
+
+def boards_say_more_than_fields(counts):
+    board = fibs.Board(BEGUN)
+    owner = fibs.CubeOwner
+    counts.same((board.pips, board.cube_owner, board.crawford, board.is_others),
+                ((167, 167), owner.MIDDLE, False, False), 'a board')
+    for flags, cube, doubled, wanted in [((1, 0), 2, 0, owner.PLAYER), ((0, 1), 2, 0, owner.OPPONENT),
+                                         ((0, 0), 2, 1, owner.OPPONENT), ((0, 0), 1, 0, owner.NOBODY)]:
+        line = BEGUN.replace(b':1:1:1:0:1:-1:', b':%d:%d:%d:%d:1:-1:' % (cube, *flags, doubled))
+        counts.same(fibs.Board(line).cube_owner, wanted, '%r' % line)
+    for scores, cube, flags, wanted in [(b'3:0:2', 1, 0, True), (b'3:2:1', 1, 0, True), (b'3:2:2', 1, 0, False),
+                                        (b'3:0:1', 1, 0, False), (b'3:0:2', 2, 0, False), (b'3:0:2', 1, 1, False),
+                                        (b'1:0:0', 1, 0, False), (b'9999:0:9998', 1, 0, False)]:
+        line = BEGUN.replace(b':1:1:1:0:1:-1:', b':%d:%d:%d:0:1:-1:' % (cube, flags, flags))
+        line = line.replace(b'bob:3:0:0:', b'bob:%s:' % scores)
+        counts.same(fibs.Board(line).crawford, wanted, 'Crawford, %r' % line)
+    watched = fibs.Board(BEGUN.replace(b':You:', b':carl:'))
+    counts.raises(fibs.NotYou, lambda: watched.phase)
+    counts.same((watched.is_others, watched.pips, watched.seen.phase, watched.seen.player, board.seen is board),
+                (True, (167, 167), fibs.Phase.MOVE, b'You', True), 'a board that is watched')
+    counts.same(watched.seen.plays(), board.plays(), 'its plays')
+
+
+def saved_matches_are_read(counts):
+    for row, wanted in [(b' *bob                 5                2 -  3', (b'bob', 5, 2, 3, True)),
+                        (b'**carl  unlimited 0 - 12', (b'carl', fibs.UNLIMITED, 0, 12, True)),
+                        ('  eve 7 1 - 0 ', (b'eve', 7, 1, 0, False)), (b'* 5 2 - 3', None), (b'***bob 5 2 - 3', (
+                            b'*bob', 5, 2, 3, True)), (b'bob 5 2 3', None), (b'bob -5 2 - 3', None), (b'', None),
+                        (b'  opponent          matchlength   score (your points first)', None),
+                        (b'bob 100000000 2 - 3', None), (b'b:b 5 2 - 3', None)]:
+        counts.same(fibs.saved_match(row), wanted, '%r' % row)
+
+
 # Lines, and what each says has happened.
 JOINED = b'** Player bob has joined you for a 3 point match.'
 BEGUN = (b'board:You:bob:3:0:0:0:-2:0:0:0:0:5:0:3:0:0:0:-5:5:0:0:0:-3:0:-5:0:0:0:0:2:0:1:6:3:0:0:1:1:1:0:1:-1:0:25:0:0:'
@@ -753,7 +853,8 @@ def the_version_is_that_of_the_library(counts):
     counts.check((ROOT / 'lib' / _library.SONAME).exists(), 'the library has it')
 
 
-TESTS = [lines_say_what_has_happened, events_are_those_of_the_program, each_event_of_the_header_has_its_tuple,
+TESTS = [turns_go_on_to_legal_plays, a_turn_says_what_is_left, boards_say_more_than_fields, saved_matches_are_read,
+         lines_say_what_has_happened, events_are_those_of_the_program, each_event_of_the_header_has_its_tuple,
          a_board_after_a_decision, a_board_of_the_other_side, the_end_of_a_match, what_is_unfinished_is_told,
          lines_have_their_kinds, a_line_that_was_cut_says_nothing, a_stream_may_be_anything_that_is_read,
          after_a_break_the_iteration_goes_on, a_path_is_opened_and_closed, pieces_are_fed_by_hand,
