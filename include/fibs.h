@@ -60,7 +60,8 @@
  * - After any other status nothing was changed, and nothing was written but what the comment says.
  * - FIBS_STATUS_SHORT: the room is too short. The call wrote no byte of it. It says how much is needed, but for
  *   fibs_lines_feed and fibs_client_feed, which always need FIBS_MAX_LINE.
- * - FIBS_STATUS_MEMORY: memory ran out. Only `new`, fibs_plays, fibs_events_hear and fibs_directory_note take memory.
+ * - FIBS_STATUS_MEMORY: memory ran out. Only `new`, fibs_plays, fibs_words,
+ *   fibs_events_hear and fibs_directory_note take memory.
  * - Each function returns, whatever bytes it is given, and reads and writes nothing else. Flags are 0 or 1.
  */
 #ifndef FIBS_H
@@ -393,6 +394,18 @@ fibs_status fibs_differs(const char *line, size_t len, const char *other, size_t
  * or it is to one point. A server shows the board of the end of a game with the new score. FIELD_MISSING to
  * FIELD_BAD_NAME if the line says no board. */
 fibs_status fibs_match_over(const char *line, size_t len, uint8_t *over);
+
+/* Who may double next. */
+enum { FIBS_OWNER_NOBODY = 0, FIBS_OWNER_PLAYER = 1, FIBS_OWNER_OPPONENT = 2, FIBS_OWNER_BOTH = 3 };
+
+/* Who may double next on the board of a line, one of FIBS_OWNER_..; a side that has just doubled with a cube of its own
+ * keeps it until that is answered. FIELD_MISSING to FIELD_BAD_NAME if the line says no board. */
+fibs_status fibs_cube_owner(const char *line, size_t len, uint8_t *owner);
+
+/* The board of a line in words, a fact a row, each with a `\n`: as the program tells it at a terminal, in the player's
+ * own numbers. Of a game that is watched the first row has the names of both. *size is how many bytes that are. Those
+ * of fibs_phase; MEMORY; SHORT, and *size is set. */
+fibs_status fibs_words(const char *line, size_t len, char *text, size_t room, size_t *size);
 
 /* The command of a decision, such as `move 24-18`, without a line end, at most FIBS_MAX_COMMAND bytes. *len is its
  * length. direction is number[FIBS_BOARD_DIRECTION] of the board on which it is made. NO_DECISION; NO_DIRECTION; SHORT,

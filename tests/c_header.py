@@ -190,6 +190,9 @@ def enumerators():
         'BOARD': {name: field - 4 for name, field in BOARD.items()}}
     families['KIND']['MESSAGE'] = families['KIND'].pop('NUMBERED')
     families.update(of_events())
+    boards = (ROOT / 'crates/fibs_c/src/boards.rt').read_text()
+    families['OWNER'] = {name.upper(): int(number) for number, name in
+                         re.findall(r'(\d) (?:the )?(nobody|player|opponent|both)', boards)}
     for family, numbers in families.items():
         found.update(('FIBS_%s_%s' % (family, name), number) for name, number in numbers.items())
     return found

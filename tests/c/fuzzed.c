@@ -20,9 +20,9 @@ int LLVMFuzzerTestOneInput(const uint8_t *data, size_t size);
 #ifndef FAMILY
 #define FAMILY 0
 #endif
-enum { FUNCTIONS = 50 };
+enum { FUNCTIONS = 52 };
 static const struct { uint8_t first, count; } families[] = {
-    { 0, FUNCTIONS }, { 0, 7 }, { 7, 15 }, { 22, 16 }, { 38, 8 }, { 46, 4 }
+    { 0, FUNCTIONS }, { 0, 7 }, { 7, 17 }, { 24, 16 }, { 40, 8 }, { 48, 4 }
 };
 
 static unsigned long long calls, calls_of[FUNCTIONS];
@@ -363,6 +363,13 @@ static void call_readings(uint8_t which) {
         status = fibs_match_over(line.bytes, line.len, &out.byte);
         must(!answered(status, status == FIBS_STATUS_DONE ? BYTE : NOTHING) || out.byte <= 1, "it is over or not");
         break;
+    case 14:
+        status = fibs_cube_owner(line.bytes, line.len, &out.byte);
+        must(!answered(status, status == FIBS_STATUS_DONE ? BYTE : NOTHING) || out.byte <= FIBS_OWNER_BOTH, "an owner");
+        break;
+    case 15:
+        is_text(fibs_words(line.bytes, line.len, text, room, &out.size), text, room, FIBS_MAX_LINE);
+        break;
     default:
         is_text(fibs_status_text((fibs_status)(number() * 4 + one_byte()), text, room, &out.size), text, room,
                 FIBS_MAX_STATUS_NAME);
@@ -581,14 +588,14 @@ int LLVMFuzzerTestOneInput(const uint8_t *data, size_t size) {
         fill();
         if (which < 7) {
             call_lines(which);
-        } else if (which < 22) {
+        } else if (which < 24) {
             call_readings(which - 7);
-        } else if (which < 38) {
-            call_client(which - 22);
-        } else if (which < 46) {
-            call_directory(which - 38);
+        } else if (which < 40) {
+            call_client(which - 24);
+        } else if (which < 48) {
+            call_directory(which - 40);
         } else {
-            call_events(which - 46);
+            call_events(which - 48);
         }
     }
     fibs_lines_free(&held.lines);

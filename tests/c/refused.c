@@ -24,6 +24,7 @@ static bool run(long number) {
     fibs_directory directory = NULL;
     fibs_events events = NULL;
     static fibs_happened happened;
+    static char text[4096];
     fibs_wire wire = { 0 };
     fibs_decision none = { 0, 0, { { 0, 0 } } };
     size_t count = 77, len = 77;
@@ -72,6 +73,12 @@ static bool run(long number) {
     /* if room for all plays at once is refused, it may do with less */
     check(made == S(DONE) || (made == S(MEMORY) && refused > before), "fibs_plays", number);
     check(made == S(DONE) ? count == 14 : count == 77 && plays[0].kind == 0, "fibs_plays writes", number);
+
+    before = refused;
+    len = 77;
+    made = fibs_words(board, strlen(board), text, sizeof text, &len);
+    check(made == S(DONE) ? len > 100 && text[0] == 'Y' : made == S(MEMORY) && refused > before && len == 77,
+          "fibs_words", number);
 
     fibs_lines_free(&lines);
     fibs_client_free(&client);

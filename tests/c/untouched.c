@@ -236,6 +236,25 @@ static void check_rules(void) {
     fibs_effect(T(to_roll), &roll, 6, 2, out.text, sizeof out.text, &out.size);
     check(out.size == strlen(board) && memcmp(out.text, board, out.size) == 0, "the board after a roll");
     is("a roll", 0, 0, SIZE | TEXT);
+    for (size_t i = 0; i < sizeof lines / sizeof lines[0]; i++) {
+        if (lines[i].line != watched) {
+            is("no words", lines[i].status == S(NOT_YOU) ? S(DONE) : lines[i].status,
+               fibs_words(T(lines[i].line), out.text, sizeof out.text, &out.size), NOTHING);
+        }
+        is("who owns no cube", i < 2 ? lines[i].status : S(DONE), fibs_cube_owner(T(lines[i].line), &out.byte),
+           i < 2 ? NOTHING : BYTE);
+    }
+    check(fibs_cube_owner(T(board), &out.byte) == S(DONE) && out.byte == FIBS_OWNER_BOTH, "a cube in the middle");
+    is("no room for words", S(SHORT), fibs_words(T(board), NULL, 0, &out.size), SIZE | BYTE);
+    fibs_words(T(board), out.text, sizeof out.text, &out.size);
+    check(out.size > 100 && memcmp(out.text, "Your turn, to move.\nYour dice 6 and 2.\n", 39) == 0
+          && out.text[out.size - 1] == '\n'
+          && memcmp(out.text + out.size, pattern.text + out.size, sizeof out.text - out.size) == 0,
+          "just the words are written");
+    is("words", 0, 0, TEXT | SIZE);
+    fibs_words(T(watched), out.text, sizeof out.text, &out.size);
+    check(out.size > 100 && memcmp(out.text, "bob ", 4) == 0, "a board that is watched, in words");
+    is("the words of others", 0, 0, TEXT | SIZE);
     is("a phase", S(DONE), fibs_phase(T(board), &out.byte), BYTE);
     is("no room for plays", S(SHORT), fibs_plays(T(board), out.plays, 13, &out.size), SIZE);
     is("no room for plays at all", S(SHORT), fibs_plays(T(board), NULL, 0, &out.size), SIZE);

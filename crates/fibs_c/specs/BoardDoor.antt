@@ -1,5 +1,5 @@
 -- What C gets of a board.
-use Rattle.std.specs.Prelude.{◌≡◌, ℕ, ℤ, pos, ◌+◌, ◌≤◌, ◌⊎◌, ◌&&◌, ◌||◌, Bool, not, List, int_le}
+use Rattle.std.specs.Prelude.{◌≡◌, ℕ, ℤ, pos, ◌+◌, ◌≤◌, ◌⊎◌, ◌&&◌, ◌||◌, Bool, not, List, int_le, if◌then◌else◌}
 use Rattle.std.specs.Ordering.{int_eq}
 use Rattle.fibs_fields.specs.Board.{BoardFields, BoardText, Wrong, field_of, spelling}
 use Rattle.fibs_fields.specs.Faults.{fault_number}
@@ -65,6 +65,34 @@ pub record TellsOver (line : List ℕ) (over status : ℕ) : Type 0 where
 -- or the line says no board, and nothing is written
 abbrev pub IsOverTold : List ℕ → ℕ → ℕ → ℕ → Type 0
 IsOverTold line over over' status = (IsWrongBoard line status × (over' ≡ over)) ⊎ TellsOver line over' status
+
+-- whether the opponent may double next if the player may not, by his flag, whether he has just doubled, and the cube:
+-- a side that has just doubled with a cube of its own keeps it until that is answered
+abbrev pub is_opponents : ℤ → ℤ → ℤ → Bool
+is_opponents other_may doubled cube =
+    int_eq other_may (pos 1) || (int_eq doubled (pos 1) && int_le (pos 2) cube)
+
+-- who may double next, by the flags of both, whether the opponent has just doubled, and the cube: 0 nobody, 1 the
+-- player, 2 the opponent, 3 both
+abbrev pub cube_owner_by : ℤ → ℤ → ℤ → ℤ → ℕ
+cube_owner_by may other_may doubled cube =
+    if int_eq may (pos 1) then (if int_eq other_may (pos 1) then 3 else 1)
+    else if is_opponents other_may doubled cube then 2 else 0
+
+-- of a board
+abbrev pub cube_owner : BoardFields → ℕ
+cube_owner b = cube_owner_by (field_of b 39) (field_of b 40) (field_of b 41) (field_of b 38)
+
+-- who may double next on the board of the line
+pub record TellsOwner (line : List ℕ) (owner status : ℕ) : Type 0 where
+  pub board : BoardFields
+  pub says : BoardText board line
+  pub owner_is : owner ≡ cube_owner board
+  pub done : status ≡ 0
+
+-- or the line says no board, and nothing is written
+abbrev pub IsOwnerTold : List ℕ → ℕ → ℕ → ℕ → Type 0
+IsOwnerTold line owner owner' status = (IsWrongBoard line status × (owner' ≡ owner)) ⊎ TellsOwner line owner' status
 
 -- the first line says a board, and the second one does not
 pub record IsWrongSecond (line other : List ℕ) (status : ℕ) : Type 0 where

@@ -13,6 +13,7 @@ pub mod FeedDoor
 pub mod DirectoryDoor
 pub mod PlayerDoor
 pub mod EventsDoor
+pub mod WordsDoor
 -- What only private functions and proofs say.
 pub mod ReadingOn
 -- What C sees: records, statuses, handles and the wire.

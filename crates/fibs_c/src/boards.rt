@@ -2,7 +2,7 @@
 
 ghost use Rattle.std.specs.Prelude.{◌≡◌};
 ghost use Rattle.fibs_fields.specs.StoredBoard.{fields_of};
-ghost use Rattle.fibs_c.specs.BoardDoor.{IsBoardRead, IsPrintedBoard, IsOverTold, IsDifferenceTold, ends_match, is_won};
+ghost use Rattle.fibs_c.specs.BoardDoor.{IsBoardRead, IsPrintedBoard, IsOverTold, IsOwnerTold, IsDifferenceTold, cube_owner, cube_owner_by, ends_match, is_opponents, is_won};
 
 use crate::records::boards::{BoardRecord, put_board};
 use crate::records::status::{DONE, field_fault_status};
@@ -67,6 +67,52 @@ pub extern "C" fn fibs_match_over(line: &[u8], over: &mut u8) -> u32
         Err(wrong) => field_fault_status(wrong.fault),
         Ok(board) => {
             *over = flag(ends_match(&board));
+            DONE
+        }
+    }
+}
+
+/// Whether the opponent may double next, by his flag, whether he has just doubled, and the cube; the player may not.
+fn is_opponents(other_may: i32, doubled: i32, cube: i32) -> bool
+    ensures { result ≡ is_opponents other_may doubled cube }
+{
+    other_may == 1 || (doubled == 1 && 2 <= cube)
+}
+
+/// Who may double next, by the flags of both, whether the opponent has just doubled, and the cube.
+fn cube_owner_by(may: i32, other_may: i32, doubled: i32, cube: i32) -> u8
+    ensures { result ≡ cube_owner_by may other_may doubled cube }
+{
+    if may == 1 {
+        if other_may == 1 { 3 } else { 1 }
+    } else if is_opponents(other_may, doubled, cube) {
+        2
+    } else {
+        0
+    }
+}
+
+/// Who may double next: 0 nobody, 1 the player, 2 the opponent, 3 both.
+fn cube_owner(board: &Board) -> u8
+    ensures { result ≡ cube_owner (fields_of board.now) }
+{
+    cube_owner_by(
+        board.field(39),
+        board.field(40),
+        board.field(41),
+        board.field(38),
+    )
+}
+
+/// Who may double next on the board of a line: 0 nobody, 1 the player, 2 the opponent, 3 both.
+#[unsafe(no_mangle)]
+pub extern "C" fn fibs_cube_owner(line: &[u8], owner: &mut u8) -> u32
+    ensures { IsOwnerTold line.now owner.old owner.new result }
+{
+    match Board::read(line) {
+        Err(wrong) => field_fault_status(wrong.fault),
+        Ok(board) => {
+            *owner = cube_owner(&board);
             DONE
         }
     }

@@ -34,6 +34,7 @@ mod player;
 mod positions;
 mod readings;
 mod records;
+mod words;
 
 pub use feeding::Heard;
 pub use lines::FedLine;
