@@ -171,10 +171,9 @@ class Board:
     @property
     def cube_owner(self) -> CubeOwner:
         """Whose the cube is: who may double next. A side that has just redoubled keeps it until that is answered."""
-        if self.may_double:
-            return CubeOwner.MIDDLE if self.opponent_may_double else CubeOwner.PLAYER
-        is_opponents = self.opponent_may_double or self.was_doubled and self.cube > 1
-        return CubeOwner.OPPONENT if is_opponents else CubeOwner.NOBODY
+        found = c_uint8()
+        check(_library.lib.fibs_cube_owner(self.line, len(self.line), byref(found)))
+        return CubeOwner(found.value)
 
     @property
     def crawford(self) -> bool:
@@ -188,6 +187,12 @@ class Board:
     def is_others(self) -> bool:
         """True if it is a board of a game that the user watches. It has no position on which he plays (NotYou)."""
         return self.player != b'You'
+
+    @property
+    def words(self) -> List[str]:
+        """The board in words, a fact a row, as the program tells it at a terminal: in the player's own numbers. Of a
+        game that is watched the first row has the names of both. TooManyOwn; TooManyOther."""
+        return told_text(_library.lib.fibs_words, self.line, len(self.line)).decode('ascii').splitlines()
 
     @property
     def seen(self) -> Board:

@@ -14,7 +14,7 @@ sys.dont_write_bytecode = True
 HERE = pathlib.Path(__file__).resolve().parent
 sys.path.insert(0, str(HERE.parent))
 
-PARTS = 'calls', 'interrupts', 'sessions', 'pages', 'installs', 'matches'
+PARTS = 'calls', 'happened', 'interrupts', 'sessions', 'pages', 'installs', 'matches'
 
 
 class Counts:
