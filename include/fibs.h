@@ -402,6 +402,10 @@ enum { FIBS_OWNER_NOBODY = 0, FIBS_OWNER_PLAYER = 1, FIBS_OWNER_OPPONENT = 2, FI
  * keeps it until that is answered. FIELD_MISSING to FIELD_BAD_NAME if the line says no board. */
 fibs_status fibs_cube_owner(const char *line, size_t len, uint8_t *owner);
 
+/* Whether the board of a line is of a game of the Crawford rule, in which nobody doubles: one side alone has one point to
+ * go, neither side may double, and the cube was not turned. FIELD_MISSING to FIELD_BAD_NAME if the line says no board. */
+fibs_status fibs_crawford(const char *line, size_t len, uint8_t *crawford);
+
 /* The board of a line in words, a fact a row, each with a `\n`: as the program tells it at a terminal, in the player's
  * own numbers. Of a game that is watched the first row has the names of both. *size is how many bytes that are. Those
  * of fibs_phase; MEMORY; SHORT, and *size is set. */

@@ -179,9 +179,9 @@ class Board:
     def crawford(self) -> bool:
         """True if the game is that of the Crawford rule, in which nobody doubles: one side alone has one point to go,
         neither side may double, and the cube was not turned."""
-        near = [1 < self.length < 9999 and score == self.length - 1 for score in (self.score, self.opponent_score)]
-        is_quiet = self.cube == 1 and not self.was_doubled and self.cube_owner == CubeOwner.NOBODY
-        return near[0] != near[1] and is_quiet
+        found = c_uint8()
+        check(_library.lib.fibs_crawford(self.line, len(self.line), byref(found)))
+        return found.value == 1
 
     @property
     def is_others(self) -> bool:

@@ -206,6 +206,7 @@ _FUNCTIONS: dict[str, tuple[Any, list[Any]]] = {
     'fibs_differs': (c_uint32, [*_DATA, *_DATA, POINTER(c_uint8)]),
     'fibs_match_over': (c_uint32, [*_DATA, POINTER(c_uint8)]),
     'fibs_cube_owner': (c_uint32, [*_DATA, POINTER(c_uint8)]),
+    'fibs_crawford': (c_uint32, [*_DATA, POINTER(c_uint8)]),
     'fibs_words': (c_uint32, [*_DATA, *_ROOM, _LENGTH]),
     'fibs_decision_text': (c_uint32, [POINTER(Decision), c_int32, *_ROOM, _LENGTH]),
     'fibs_read_decision': (c_uint32, [*_DATA, c_int32, POINTER(Decision)]),

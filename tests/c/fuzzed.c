@@ -20,9 +20,9 @@ int LLVMFuzzerTestOneInput(const uint8_t *data, size_t size);
 #ifndef FAMILY
 #define FAMILY 0
 #endif
-enum { FUNCTIONS = 52 };
+enum { FUNCTIONS = 53 };
 static const struct { uint8_t first, count; } families[] = {
-    { 0, FUNCTIONS }, { 0, 7 }, { 7, 17 }, { 24, 16 }, { 40, 8 }, { 48, 4 }
+    { 0, FUNCTIONS }, { 0, 7 }, { 7, 18 }, { 25, 16 }, { 41, 8 }, { 49, 4 }
 };
 
 static unsigned long long calls, calls_of[FUNCTIONS];
@@ -368,6 +368,10 @@ static void call_readings(uint8_t which) {
         must(!answered(status, status == FIBS_STATUS_DONE ? BYTE : NOTHING) || out.byte <= FIBS_OWNER_BOTH, "an owner");
         break;
     case 15:
+        status = fibs_crawford(line.bytes, line.len, &out.byte);
+        must(!answered(status, status == FIBS_STATUS_DONE ? BYTE : NOTHING) || out.byte <= 1, "Crawford's or not");
+        break;
+    case 16:
         is_text(fibs_words(line.bytes, line.len, text, room, &out.size), text, room, FIBS_MAX_LINE);
         break;
     default:
@@ -588,14 +592,14 @@ int LLVMFuzzerTestOneInput(const uint8_t *data, size_t size) {
         fill();
         if (which < 7) {
             call_lines(which);
-        } else if (which < 24) {
+        } else if (which < 25) {
             call_readings(which - 7);
-        } else if (which < 40) {
-            call_client(which - 24);
-        } else if (which < 48) {
-            call_directory(which - 40);
+        } else if (which < 41) {
+            call_client(which - 25);
+        } else if (which < 49) {
+            call_directory(which - 41);
         } else {
-            call_events(which - 48);
+            call_events(which - 49);
         }
     }
     fibs_lines_free(&held.lines);

@@ -244,6 +244,11 @@ static void check_rules(void) {
         is("who owns no cube", i < 2 ? lines[i].status : S(DONE), fibs_cube_owner(T(lines[i].line), &out.byte),
            i < 2 ? NOTHING : BYTE);
     }
+    for (size_t i = 0; i < sizeof lines / sizeof lines[0]; i++) {
+        is("Crawford", i < 2 ? lines[i].status : S(DONE), fibs_crawford(T(lines[i].line), &out.byte),
+           i < 2 ? NOTHING : BYTE);
+    }
+    check(fibs_crawford(T(board), &out.byte) == S(DONE) && out.byte == 0, "no game of the Crawford rule");
     check(fibs_cube_owner(T(board), &out.byte) == S(DONE) && out.byte == FIBS_OWNER_BOTH, "a cube in the middle");
     is("no room for words", S(SHORT), fibs_words(T(board), NULL, 0, &out.size), SIZE | BYTE);
     fibs_words(T(board), out.text, sizeof out.text, &out.size);

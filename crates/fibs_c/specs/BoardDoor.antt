@@ -1,5 +1,5 @@
 -- What C gets of a board.
-use Rattle.std.specs.Prelude.{◌≡◌, ℕ, ℤ, pos, ◌+◌, ◌≤◌, ◌⊎◌, ◌&&◌, ◌||◌, Bool, not, List, int_le, if◌then◌else◌}
+use Rattle.std.specs.Prelude.{◌≡◌, ℕ, ℤ, pos, ◌+◌, ◌≤◌, ◌⊎◌, ◌&&◌, ◌||◌, ◌-ℤ◌, Bool, not, List, nat_eq, int_le, if◌then◌else◌}
 use Rattle.std.specs.Ordering.{int_eq}
 use Rattle.fibs_fields.specs.Board.{BoardFields, BoardText, Wrong, field_of, spelling}
 use Rattle.fibs_fields.specs.Faults.{fault_number}
@@ -93,6 +93,38 @@ pub record TellsOwner (line : List ℕ) (owner status : ℕ) : Type 0 where
 -- or the line says no board, and nothing is written
 abbrev pub IsOwnerTold : List ℕ → ℕ → ℕ → ℕ → Type 0
 IsOwnerTold line owner owner' status = (IsWrongBoard line status × (owner' ≡ owner)) ⊎ TellsOwner line owner' status
+
+-- a side has one point to go in a match of more than one, which is not unlimited
+abbrev pub is_near : ℤ → ℤ → Bool
+is_near length score = int_le (pos 2) length && (not (int_eq length (pos 9999)) && int_eq score (length -ℤ pos 1))
+
+-- just one of two sides has
+abbrev pub has_one_near : ℤ → ℤ → ℤ → Bool
+has_one_near length own other = if is_near length own then not (is_near length other) else is_near length other
+
+-- nobody may double, and nobody has, by who may double next, the cube, and whether the opponent has doubled
+abbrev pub is_quiet : ℕ → ℤ → ℤ → Bool
+is_quiet owner cube doubled = nat_eq owner 0 && (int_eq cube (pos 1) && not (int_eq doubled (pos 1)))
+
+-- of a board
+abbrev pub has_quiet_cube : BoardFields → Bool
+has_quiet_cube b = is_quiet (cube_owner b) (field_of b 38) (field_of b 41)
+
+-- the game is that of the Crawford rule, as far as a board shows it
+abbrev pub is_crawford : BoardFields → Bool
+is_crawford b = has_quiet_cube b && has_one_near (field_of b 4) (field_of b 5) (field_of b 6)
+
+-- whether the board of the line says so
+pub record TellsCrawford (line : List ℕ) (crawford status : ℕ) : Type 0 where
+  pub board : BoardFields
+  pub says : BoardText board line
+  pub crawford_is : crawford ≡ flag_of (is_crawford board)
+  pub done : status ≡ 0
+
+-- or the line says no board, and nothing is written
+abbrev pub IsCrawfordTold : List ℕ → ℕ → ℕ → ℕ → Type 0
+IsCrawfordTold line crawford crawford' status =
+    (IsWrongBoard line status × (crawford' ≡ crawford)) ⊎ TellsCrawford line crawford' status
 
 -- the first line says a board, and the second one does not
 pub record IsWrongSecond (line other : List ℕ) (status : ℕ) : Type 0 where

@@ -2,7 +2,7 @@
 
 ghost use Rattle.std.specs.Prelude.{◌≡◌};
 ghost use Rattle.fibs_fields.specs.StoredBoard.{fields_of};
-ghost use Rattle.fibs_c.specs.BoardDoor.{IsBoardRead, IsPrintedBoard, IsOverTold, IsOwnerTold, IsDifferenceTold, cube_owner, cube_owner_by, ends_match, is_opponents, is_won};
+ghost use Rattle.fibs_c.specs.BoardDoor.{IsBoardRead, IsPrintedBoard, IsCrawfordTold, IsOverTold, IsOwnerTold, IsDifferenceTold, cube_owner, cube_owner_by, ends_match, has_one_near, has_quiet_cube, is_crawford, is_near, is_opponents, is_quiet, is_won};
 
 use crate::records::boards::{BoardRecord, put_board};
 use crate::records::status::{DONE, field_fault_status};
@@ -113,6 +113,59 @@ pub extern "C" fn fibs_cube_owner(line: &[u8], owner: &mut u8) -> u32
         Err(wrong) => field_fault_status(wrong.fault),
         Ok(board) => {
             *owner = cube_owner(&board);
+            DONE
+        }
+    }
+}
+
+/// Whether a side has one point to go in a match of more than one.
+fn is_near(length: i32, score: i32) -> bool
+    ensures { result ≡ is_near length score }
+{
+    2 <= length && (length != 9999 && score == length - 1)
+}
+
+/// Whether just one of two sides has one point to go.
+fn has_one_near(length: i32, own: i32, other: i32) -> bool
+    ensures { result ≡ has_one_near length own other }
+{
+    if is_near(length, own) {
+        !is_near(length, other)
+    } else {
+        is_near(length, other)
+    }
+}
+
+/// Whether nobody may double, and nobody has, by who may double next, the cube, and whether the opponent has doubled.
+fn is_quiet(owner: u8, cube: i32, doubled: i32) -> bool
+    ensures { result ≡ is_quiet owner cube doubled }
+{
+    owner == 0 && (cube == 1 && doubled != 1)
+}
+
+/// Whether nobody may double, and nobody has.
+fn has_quiet_cube(board: &Board) -> bool
+    ensures { result ≡ has_quiet_cube (fields_of board.now) }
+{
+    is_quiet(cube_owner(board), board.field(38), board.field(41))
+}
+
+/// Whether the game is that of the Crawford rule, in which nobody doubles, as far as the board shows it.
+fn is_crawford(board: &Board) -> bool
+    ensures { result ≡ is_crawford (fields_of board.now) }
+{
+    has_quiet_cube(board) && has_one_near(board.field(4), board.field(5), board.field(6))
+}
+
+/// Whether the board of a line is of a game of the Crawford rule.
+#[unsafe(no_mangle)]
+pub extern "C" fn fibs_crawford(line: &[u8], crawford: &mut u8) -> u32
+    ensures { IsCrawfordTold line.now crawford.old crawford.new result }
+{
+    match Board::read(line) {
+        Err(wrong) => field_fault_status(wrong.fault),
+        Ok(board) => {
+            *crawford = flag(is_crawford(&board));
             DONE
         }
     }
