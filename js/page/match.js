@@ -63,7 +63,7 @@ export class Match {
       case 'cannotMove': if (isOpponent) this.moved = []; break;
       case 'gameOver': case 'matchOver': case 'left': Object.assign(this, NO_GAME, { next: null, over: found }); break;
       case 'nextGame': Object.assign(this, { next: this.over, over: null }); break;
-      case 'nothingSaved': this.resumes = null; break;
+      case 'nothingSaved': if (this.resumes) Object.assign(this, NO_GAME, { resumes: null, over: found }); break;
       case 'notPlaying': if (this.resumes) return `invite ${this.resumes}`; break;
       default:
     }

@@ -97,6 +97,7 @@ const hearBoard = (board) => {
 
 const learn = (found) => {
   people.learn(found, match.opponent);
+  if (found.event === 'nothingSaved') last = null;
   if (found.event === 'joined') match.rating = people.get(name)?.rating;
   const next = match.learn(found, client.waiting?.command ?? null);
   if (next) tell(next);
@@ -263,13 +264,14 @@ const then = (change, line) => () => {
   else show();
 };
 
-const askedAfterMatch = ({ event, who, length, score }) => {
+const askedAfterMatch = ({ event, who, length, score, name: other }) => {
   const { opponent, rating } = match;
   const close = no('Close', then({ over: null }));
   if (event === 'left') {
     return ask(`${who === 'player' ? 'You have left' : `${opponent} has left`}: the match is saved.`,
       yes(`Resume with ${opponent}`, then({ over: null }, `invite ${opponent}`)), close);
   }
+  if (event === 'nothingSaved') return ask(`No match with ${other} is saved: it is over, or was never begun.`, close);
   const now = people.get(name)?.rating;
   const change = rating && now ? ` Your rating: ${rating.toFixed(2)} → ${now.toFixed(2)}.` : '';
   return ask(`${won(who)} the match to ${length}, ${score[0]}-${score[1]}.${change}`,
@@ -319,7 +321,8 @@ function* asked() {
     yield { ...ask(text, yes('Turn it off and log in again', mend)), kind: 'bad' };
   }
   if (match.resumes) {
-    yield ask(`Waiting for ${match.resumes} to resume the match.`, no('Let it be', then({ resumes: null })));
+    const letBe = () => { last = null; then({ resumes: null })(); };
+    yield ask(`Waiting for ${match.resumes} to resume the match.`, no('Let it be', letBe));
   }
   yield* askedInGame(client.shown);
   for (const one of match.invitations) yield invitation(one);

@@ -62,4 +62,10 @@ test('a match knows what is asked, and forgets it', () => {
   match.resume('eve');
   assert.equal(match.learn({ event: 'notPlaying' }, null), 'invite eve');
   assert.equal(match.learn({ event: 'invitedToResume', name: 'eve' }, null), 'join eve');
+  match.learn({ event: 'nothingSaved', name: 'eve' }, null);
+  assert.deepEqual([match.resumes, match.over.event], [null, 'nothingSaved']);
+  // the answer to what was typed asks nothing
+  match.over = null;
+  match.learn({ event: 'nothingSaved', name: 'eve' }, null);
+  assert.equal(match.over, null);
 });

@@ -152,6 +152,11 @@ const answer = async (now) => {
     if (shots) await page.shot(`${shots}/won.png`);
     return true;
   }
+  if (/is saved: it is over/.test(now.notice) && resumes) {
+    // it ended while the connection was cut
+    matches += 1;
+    return true;
+  }
   if (named('Next game')) {
     games += 1;
     await press('Next game', 'Enter');
