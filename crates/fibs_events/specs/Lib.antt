@@ -6,3 +6,4 @@ pub mod Ends
 pub mod Happenings
 pub mod Known
 pub mod Asking
+pub mod InOrder

@@ -79,6 +79,7 @@ impl Events {
         ensures accepted { result.accepted ≡ None }
         ensures won { result.won ≡ None }
         ensures won_match { result.won_match ≡ None }
+        ensures said { result.said ≡ None }
     {
         let mut happened = Happened::nothing();
         happened.doubled = self.note_double(game);
@@ -117,6 +118,7 @@ impl Events {
         ensures accepted { result.accepted ≡ None }
         ensures won { IfSome result.won (λ won. GameWon (game_of before.now) (game_of game.now) won) }
         ensures won_match { result.won_match ≡ None }
+        ensures said { result.said ≡ None }
     {
         let won = self.note_end(before, game);
         self.game = Game::new();
@@ -170,6 +172,7 @@ impl Events {
             TakenBetween (doubler_of self.old) (game_of before.now) (game_of game.now) who) }
         ensures won { IfSome result.won (λ won. GameWon (game_of before.now) (game_of game.now) won) }
         ensures won_match { IfSome result.won_match (λ won. MatchWon (game_of game.now) won) }
+        ensures said { result.said ≡ None }
     {
         self.note_play(&played);
         let mut happened = Happened::nothing();
@@ -202,6 +205,7 @@ impl Events {
             IfSome happened.won (λ won. GameWon (game_of before.now) (game_of game.now) won)) }
         ensures won_match { IfOk result (λ happened.
             IfSome happened.won_match (λ won. MatchWon (game_of game.now) won)) }
+        ensures said { IfOk result (λ happened. happened.said ≡ None) }
     {
         if is_next_game(before, game, self.game.is_over) {
             return Ok(self.hear_next_game(before, game));
@@ -224,6 +228,7 @@ impl Events {
             IfSome happened.won (λ won. WonFrom (known_of self.old) (game_of game.now) won)) }
         ensures won_match { IfOk result (λ happened.
             IfSome happened.won_match (λ won. MatchWon (game_of game.now) won)) }
+        ensures said { IfOk result (λ happened. happened.said ≡ None) }
         ensures repeated { IfSome (known_of self.old) (λ b.
             same_game b (game_of game.now) ≡ true → result ≡ Ok nothing) }
     {
@@ -263,6 +268,7 @@ impl Events {
             IfSome happened.won (λ won. WonFrom (known_of self.old) (fields_of board.now) won)) }
         ensures won_match { IfOk result (λ happened.
             IfSome happened.won_match (λ won. MatchWon (fields_of board.now) won)) }
+        ensures said { IfOk result (λ happened. happened.said ≡ None) }
         ensures repeated { IfSome (known_of self.old) (λ b.
             same_game b (fields_of board.now) ≡ true → result ≡ Ok nothing) }
         ensures known { good (fields_of board.now) ≡ true →

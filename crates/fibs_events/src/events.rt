@@ -1,7 +1,7 @@
 //! What a client's or a saved session's lines say has happened. Boards decide before texts: a play is one that leads
 //! from the board that is known to the next, or that a text names and the rules allow on it.
 
-ghost use Rattle.std.specs.Prelude.{◌≡◌, IfOk, IfSome, OnOk, Some, Ok, true, false};
+ghost use Rattle.std.specs.Prelude.{◌≡◌, IfOk, IfSome, OnOk, Some, None, Ok, true, false};
 ghost use Rattle.fibs_fields.specs.Board.{BoardFields};
 ghost use Rattle.fibs_position.specs.GamePart.{same_game};
 ghost use Rattle.fibs_position.specs.GoodBoard.{good};
@@ -37,6 +37,8 @@ impl Events {
             IfSome happened.won (λ won. WonFrom (known_of self.old) b won)) }
         ensures won_match { (b : BoardFields) → (reading_of reading.now ≡ board_line b) → IfOk result (λ happened.
             IfSome happened.won_match (λ won. MatchWon b won)) }
+        ensures said { (b : BoardFields) → (reading_of reading.now ≡ board_line b) →
+            IfOk result (λ happened. happened.said ≡ None) }
         ensures repeated { (before b : BoardFields) → known_of self.old ≡ Some before
             → (reading_of reading.now ≡ board_line b) → same_game before b ≡ true → result ≡ Ok nothing }
         ensures others { (b : BoardFields) → (reading_of reading.now ≡ board_line b) → good b ≡ false →

@@ -1,7 +1,9 @@
 //! What has happened by one line.
 
-ghost use Rattle.std.specs.Prelude.{◌≡◌, None};
+ghost use Rattle.std.specs.Prelude.{◌≡◌, ◌==◌, None, length, option_map};
+ghost use Rattle.fibs_rules.specs.PlayValue.{hops_of};
 ghost use Rattle.fibs_events.specs.Happenings.{nothing};
+ghost use Rattle.fibs_events.specs.InOrder.{accepted_event, doubled_event, events_of, played_event, rolled_event, won_event, won_match_event};
 
 use crate::event::{Event, Offer, Side};
 use fibs_position::{Play, Stake};
@@ -68,10 +70,19 @@ pub struct Happened<'a> {
     pub won_match: Option<WonMatch>,
 }
 
+/// Whether a play has no step.
+fn is_empty(play: &Play) -> bool
+    ensures { result ≡ (length (hops_of play.now) == 0) }
+{
+    play.steps().is_empty()
+}
+
 impl Turned {
     /// The event that it is.
-    fn event<'a>(&self) -> Event<'a> {
-        if self.play.steps().is_empty() {
+    fn event<'a>(&self) -> Event<'a>
+        ensures { result ≡ played_event self.now }
+    {
+        if is_empty(&self.play) {
             Event::CannotMove { who: self.who }
         } else {
             Event::Played {
@@ -109,7 +120,9 @@ impl<'a> Happened<'a> {
     }
 
     /// The event of a game's end.
-    fn game_over(&self) -> Option<Event<'a>> {
+    fn game_over(&self) -> Option<Event<'a>>
+        ensures { result ≡ option_map won_event self.now.won }
+    {
         let won = self.won?;
         Some(Event::GameOver {
             winner: won.winner,
@@ -119,7 +132,9 @@ impl<'a> Happened<'a> {
     }
 
     /// The event of a match's end.
-    fn match_over(&self) -> Option<Event<'a>> {
+    fn match_over(&self) -> Option<Event<'a>>
+        ensures { result ≡ option_map won_match_event self.now.won_match }
+    {
         let won = self.won_match?;
         let score = won.score;
         Some(Event::MatchOver {
@@ -130,19 +145,25 @@ impl<'a> Happened<'a> {
     }
 
     /// The event of a play.
-    fn play(&self) -> Option<Event<'a>> {
+    fn play(&self) -> Option<Event<'a>>
+        ensures { result ≡ option_map played_event self.now.played }
+    {
         let turned = self.played?;
         Some(turned.event())
     }
 
     /// The event of a double.
-    fn double(&self) -> Option<Event<'a>> {
+    fn double(&self) -> Option<Event<'a>>
+        ensures { result ≡ option_map doubled_event self.now.doubled }
+    {
         let who = self.doubled?;
         Some(Event::Doubled { who })
     }
 
     /// The event of a double that is accepted.
-    fn acceptance(&self) -> Option<Event<'a>> {
+    fn acceptance(&self) -> Option<Event<'a>>
+        ensures { result ≡ option_map accepted_event self.now.accepted }
+    {
         let who = self.accepted?;
         Some(Event::Accepted {
             who,
@@ -151,7 +172,9 @@ impl<'a> Happened<'a> {
     }
 
     /// The event of a roll.
-    fn roll(&self) -> Option<Event<'a>> {
+    fn roll(&self) -> Option<Event<'a>>
+        ensures { result ≡ option_map rolled_event self.now.rolled }
+    {
         let rolled = self.rolled?;
         let dice = rolled.dice;
         Some(Event::Rolled {
@@ -161,7 +184,9 @@ impl<'a> Happened<'a> {
     }
 
     /// The events, in the order in which they happened, with nothing between some of them.
-    pub fn events(&self) -> [Option<Event<'a>>; MOST_EVENTS] {
+    pub fn events(&self) -> [Option<Event<'a>>; MOST_EVENTS]
+        ensures { result ≡ events_of self.now }
+    {
         [
             self.said,
             self.play(),
