@@ -1,5 +1,5 @@
 -- The events of what has happened by one line (the project's own).
-use Rattle.std.specs.Prelude.{◌==◌, ℕ, List, [], ◌∷◌, length, Option, option_map, if◌then◌else◌}
+use Rattle.std.specs.Prelude.{◌==◌, List, [], ◌∷◌, length, Option, option_map, if◌then◌else◌}
 use Rattle.fibs_rules.specs.PlayValue.{hops_of}
 use Rattle.fibs_events.specs.declared.event.Event.{Event}
 use Rattle.fibs_events.specs.declared.event.Event.TheVariants as E

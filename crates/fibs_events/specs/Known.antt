@@ -1,11 +1,13 @@
 -- What events remember (the project's own).
-use Rattle.std.specs.Prelude.{List, Option, option_map, ⊤}
+use Rattle.std.specs.Prelude.{◌≡◌, List, Option, None, option_map, IfSome, ⊤}
 use Rattle.fibs_fields.specs.Board.{BoardFields}
 use Rattle.fibs_position.specs.GameOf.{game_of}
 use Rattle.fibs_messages.specs.Line.{ReadingValue, numbered_line, board_line, text_line, malformed_line}
 use Rattle.fibs_rules.specs.Hop.{Hop}
+use Rattle.fibs_rules.specs.PlayValue.{hops_of}
 use Rattle.fibs_events.specs.Happenings.{LegalFrom, PlayedFrom, RollShown}
 use Rattle.fibs_events.specs.declared.event.Side.{Side}
+use Rattle.fibs_events.specs.declared.happened.Happened.{Happened}
 use Rattle.fibs_events.specs.declared.happened.Rolled.{Rolled}
 use Rattle.fibs_events.specs.declared.memory.Events.{Events}
 
@@ -30,3 +32,9 @@ IsRollHeard (board_line b) rolled = RollShown b rolled
 IsRollHeard (text_line t) rolled = ⊤
 IsRollHeard (numbered_line m) rolled = ⊥
 IsRollHeard (malformed_line n k f) rolled = ⊥
+
+-- what has happened by a line that reads so: a play and a roll that are reported there; and a board says nothing else
+pub record IsHeardBy (known : Option BoardFields) (reading : ReadingValue) (happened : Happened) : Type 0 where
+  pub played : IfSome happened.played (λ turned. IsHeard known reading turned.who (hops_of turned.play))
+  pub rolled : IfSome happened.rolled (λ rolled. IsRollHeard reading rolled)
+  pub said : (b : BoardFields) → reading ≡ board_line b → happened.said ≡ None
