@@ -1,13 +1,15 @@
 //! `fibs show --events`: prints an object for each line of a stream, after it one for each event of the line,
 //! and at the end a summary.
-ghost use Rattle.std.specs.Prelude.{◌≡◌, ◌*◌, ◌++◌, List, Option, IfOk, OnOk};
+ghost use Rattle.std.specs.Prelude.{◌≡◌, ◌*◌, ◌++◌, IfOk, OnOk};
 ghost use Rattle.std.specs.Io.KnownBytes.{Appends, IsAtEnd};
 ghost use Rattle.fibs_engine.specs.Reads.{LostAtMost};
-ghost use Rattle.fibs_events.specs.declared.event.Event.{Event};
+ghost use Rattle.fibs_events.specs.InOrder.{events_of};
+ghost use Rattle.fibs_events.specs.Known.{known_of};
+ghost use Rattle.fibs_events.specs.declared.happened.Happened.{Happened};
 ghost use Rattle.fibs_messages.specs.Line.{reading_of};
 ghost use Rattle.fibs_json.specs.Counting.{event_members, line_members, nothing_counted, other_members, summary_object, with_any, with_event, with_events, with_line, with_text};
 ghost use Rattle.fibs_json.specs.Json.{more_members};
-ghost use Rattle.fibs_json.specs.Eventful.{EventfulLine, WroteAll, event_line, event_lines};
+ghost use Rattle.fibs_json.specs.Eventful.{EventfulLine, HappenedAs, WroteAll, event_line, event_lines};
 ghost use Rattle.fibs_json.specs.Lines.{unfinished_object};
 
 use crate::happened::append_event;
@@ -175,7 +177,9 @@ impl EventObjects {
         line: &Line<'_>,
         reading: &Reading<'a>,
     ) -> Result<Happened<'a>, AllocError>
-        ensures { self.new.counts ≡ with_line self.old.counts line.now.cut (reading_of reading.now) }
+        ensures heard { IfOk result (λ happened.
+            HappenedAs line.now.cut (known_of self.old.events) (reading_of reading.now) happened) }
+        ensures counts { self.new.counts ≡ with_line self.old.counts line.now.cut (reading_of reading.now) }
     {
         self.counts.count_line(line, reading);
         if line.cut {
@@ -192,14 +196,17 @@ impl EventObjects {
         reading: &Reading<'_>,
         text: &mut Vec<u8>,
     ) -> Result<(), AllocError>
-        ensures { OnOk result ((events : List (Option Event))
-            × (text.new.items ≡ text.old.items ++ event_lines self.new.counts.lines events)
+        ensures { OnOk result ((happened : Happened)
+            × HappenedAs line.now.cut (known_of self.old.events) (reading_of reading.now) happened
+            × (text.new.items ≡ text.old.items ++ event_lines self.new.counts.lines (events_of happened))
             × (self.new.counts
-            ≡ with_events (with_line self.old.counts line.now.cut (reading_of reading.now)) events)) }
+            ≡ with_events (with_line self.old.counts line.now.cut (reading_of reading.now)) (events_of happened))) }
     {
-        let events = self.hear(line, reading)?.events();
+        let happened = self.hear(line, reading)?;
+        let events = happened.events();
         self.counts.count_events(&events);
-        append_events(self.counts.lines, &events, text)
+        append_events(self.counts.lines, &events, text)?;
+        Ok(())
     }
 }
 
