@@ -4,4 +4,5 @@ pub mod SavedMatches
 pub mod Broken
 pub mod Matches
 pub mod Rated
+pub mod Rematch
 pub mod Greetings

@@ -21,7 +21,7 @@ Server      watch NAME  unwatch  leave  whois NAME  away TEXT  back  pip
             send LINE: sends LINE as it is, unchecked (send ratings bob)
             bye: leave   open: connect again   quit: end   words: in words
             reconnect: opens a lost connection by itself   stay: ends that
-            toggle automove, toggle greedy: turns them off, if they are on
+            toggle automove, toggle greedy: off   fix: off, and logs in again
             numbers own: 24 to 1   numbers server   columns 60   rows 40: size
 help WORD says more about a word.
 ";
@@ -49,7 +49,7 @@ quiet hides shouts and who comes and goes, loud tells them.
 arrivals tells who comes and goes in a match too.
 watch NAME shows the game of a player, unwatch ends that.
 leave leaves a match, toggle ready says whether you are ready to play.
-toggle automove and toggle greedy turn them off, if they are on.
+toggle automove and toggle greedy turn them off; fix does, and logs in again.
 whois NAME, show saved, pip, away TEXT and back go to the server as they are.
 send LINE sends LINE to the server as it is, unchecked.
 numbers own counts places from 24 to 1, numbers server as the server does.
@@ -130,7 +130,7 @@ What you decide is never sent again by itself.\n";
 const HELP: &[u8] = b"help (or ?): lists what you can type. help WORD: says more about a word.\n";
 
 /// What there is to say of each word: of the game, of matches, of talk, of the terminal.
-static WORDS: [(&[u8], &[u8]); 57] = [
+static WORDS: [(&[u8], &[u8]); 58] = [
     (b"roll", ROLL),
     (b"r", ROLL),
     (
@@ -168,7 +168,13 @@ If it is declined, roll or move: the screen says which.\n",
         b"toggle",
         b"toggle ready: says whether you are ready to play.\n\
 toggle automove, toggle greedy: turns off what the server plays by itself.\n\
-It counts from the next login on: bye, open, and invite NAME to resume a match.\n",
+It counts from the next login on: fix turns it off, and logs in again.\n",
+    ),
+    (
+        b"fix",
+        b"fix: if the server plays for you by itself, turns that off (toggle automove,\n\
+toggle greedy), leaves and logs in again: it counts from the next login on.\n\
+Nothing else is sent. In a match bye asks first, and a second bye leaves.\n",
     ),
     (
         b"who",

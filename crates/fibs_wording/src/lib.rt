@@ -13,5 +13,6 @@ pub mod messages;
 pub mod players;
 pub mod rated;
 pub mod reasons;
+pub mod rematch;
 pub mod saved;
 pub mod server_words;
