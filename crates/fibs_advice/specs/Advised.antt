@@ -1,5 +1,5 @@
 -- What is advised in a state, and how a terminal says it (the project's own).
-use Rattle.std.specs.Prelude.{◌≡◌, ◌++◌, ◌∷◌, ℕ, List, [], codes, take, length, nat_lt, if◌then◌else◌, Bool, true, false, Option, Some, None, IfSome, is_none, option_map}
+use Rattle.std.specs.Prelude.{◌≡◌, ◌++◌, ◌∷◌, ℕ, List, [], codes, take, length, nat_lt, if◌then◌else◌, true, false, Option, Some, None, IfSome, is_none, option_map}
 use Rattle.fibs_position.specs.DecisionValue.{decision_of}
 use Rattle.fibs_position.specs.NumbersOf.{counted}
 use Rattle.fibs_commands.specs.Commands.{command_of}
@@ -76,25 +76,9 @@ decision_word (Some D.Reject) = codes "reject"
 decision_word (Some (D.Move play)) = codes "move"
 decision_word (Some (D.Resign kind)) = codes "resign"
 
--- the whole way out of what the server plays by itself
-abbrev pub toggles_text : Bool → Bool → List ℕ
-toggles_text true true = codes "toggle automove, then toggle greedy, then bye,\nthen open"
-toggles_text true false = codes "toggle automove, then bye,\nthen open"
-toggles_text false true = codes "toggle greedy, then bye,\nthen open"
-toggles_text false false = codes "bye,\nthen open"
-
 -- a line with a name is to be typed as it stands, so the name is whole: if that is long the line has a row of its own
 abbrev pub gap : List ℕ → List ℕ
 gap name = if nat_lt 24 (length name) then codes "\n" else codes " "
-
--- and of the match that is saved then, if there is an opponent
-abbrev pub invite_words : List ℕ → List ℕ
-invite_words [] = []
-invite_words (byte ∷ rest) = codes ", and" ++ (gap (byte ∷ rest) ++ codes "invite ")
-
--- the text of the row about a saved match: the words that resume it, and a full stop
-abbrev pub resumes_text : List ℕ → List ℕ
-resumes_text opponent = invite_words opponent ++ (opponent ++ codes ".\n")
 
 -- the words that resume a saved match: to invite, or to join who invites
 abbrev pub saved_text : List ℕ → List ℕ
@@ -127,7 +111,6 @@ abbrev pub named_in : Numbers → Row → List ℕ → List ℕ → Advice → L
 named_in numbers R.Offers opponent inviter a = hint_text numbers a.offers
 named_in numbers R.Resigns opponent inviter a = hint_text numbers a.offers
 named_in numbers R.Owes opponent inviter a = hint_text numbers a.offers
-named_in numbers R.ServerPlays opponent inviter a = toggles_text a.automove a.greedy ++ resumes_text opponent
 named_in numbers R.Declined opponent inviter a =
     ways_text (counted numbers a.offers.direction) a.send a.other
 named_in numbers R.Same opponent inviter a =

@@ -137,7 +137,7 @@ impl Row {
             Row::NotLoggedIn => b"Not logged in: wrong name or password? quit, and begin again.\n",
             Row::Undoubled => b"Your turn: roll; the server refused a double in this game.\n",
             Row::Accepted => b"Your turn: roll; your double is accepted.\n",
-            Row::ServerPlays => b"The server plays for you: ",
+            Row::ServerPlays => b"The server plays for you: fix turns it off, and logs in again.\n",
             Row::Resigns | Row::Concedes => b" offers to resign: accept, or reject.\n",
             Row::Owes => b" waits for your answer: accept, or reject.\n",
             Row::Unsettled => b" may wait for your answer: accept, or reject.\n",

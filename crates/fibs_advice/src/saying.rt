@@ -3,7 +3,7 @@ ghost use Rattle.std.specs.Prelude.{◌≡◌, ◌++◌, OnOk, length, nat_lt, t
 ghost use Rattle.fibs_commands.specs.Commands.{command_of};
 ghost use Rattle.fibs_position.specs.DecisionValue.{decision_of};
 ghost use Rattle.fibs_advice.specs.Rows.{words_before, words_after};
-ghost use Rattle.fibs_advice.specs.Advised.{advice_text, beginning, gap, goes_on_text, named_in, ways_text, decision_word, invite_words, invited_text, opponent_text, resumes_text, saved_text, toggles_text};
+ghost use Rattle.fibs_advice.specs.Advised.{advice_text, beginning, gap, goes_on_text, named_in, ways_text, decision_word, invited_text, opponent_text, saved_text};
 
 use crate::advised::Advice;
 use crate::offers::{append_offers, first_way};
@@ -87,18 +87,6 @@ fn decision_word(asked: Option<Decision>) -> &'static [u8]
     }
 }
 
-/// The lines that turn off what the server plays by itself, and those after them.
-fn toggles_text(automove: bool, greedy: bool) -> &'static [u8]
-    ensures { result.now ≡ toggles_text automove greedy }
-{
-    match (automove, greedy) {
-        (true, true) => b"toggle automove, then toggle greedy, then bye,\nthen open",
-        (true, false) => b"toggle automove, then bye,\nthen open",
-        (false, true) => b"toggle greedy, then bye,\nthen open",
-        (false, false) => b"bye,\nthen open",
-    }
-}
-
 /// How much of a name is said that is not to be typed. A longer one takes a row of its own if it is.
 const MOST_NAMED: usize = 24;
 
@@ -123,28 +111,6 @@ pub fn gap(name: &[u8]) -> &'static [u8]
     if is_long(name) { b"\n" } else { b" " }
 }
 
-/// What comes before the opponent whom one invites, if there is one.
-fn invite_words(opponent: &[u8]) -> &'static [u8]
-    ensures { result.now ≡ invite_words opponent.now }
-{
-    if opponent.is_empty() {
-        b""
-    } else if is_long(opponent) {
-        b", and\ninvite "
-    } else {
-        b", and invite "
-    }
-}
-
-/// Appends how one plays on against an opponent after a new connection, if there is an opponent.
-fn append_resumes(opponent: &[u8], text: &mut Vec<u8>) -> Result<(), AllocError>
-    ensures { OnOk result (text.new.items ≡ text.old.items ++ resumes_text opponent.now) }
-{
-    text.extend_from_slice(invite_words(opponent))?;
-    text.extend_from_slice(opponent)?;
-    text.extend_from_slice(b".\n")
-}
-
 /// How a row begins.
 fn beginning<'a>(row: Row, opponent: &'a [u8], asked: Option<Decision>) -> &'a [u8]
     ensures { result.now ≡ beginning row (opponent_text opponent.now) (decision_word asked) }
@@ -163,20 +129,6 @@ fn beginning<'a>(row: Row, opponent: &'a [u8], asked: Option<Decision>) -> &'a [
         Row::Refused | Row::Waits => decision_word(asked),
         _ => b"",
     }
-}
-
-/// Appends how one leaves what the server plays by itself.
-fn append_way_out(
-    automove: bool,
-    greedy: bool,
-    opponent: &[u8],
-    text: &mut Vec<u8>,
-) -> Result<(), AllocError>
-    ensures { OnOk result (text.new.items
-        ≡ text.old.items ++ (toggles_text automove greedy ++ resumes_text opponent.now)) }
-{
-    text.extend_from_slice(toggles_text(automove, greedy))?;
-    append_resumes(opponent, text)
 }
 
 /// Appends an opponent with whom a match is resumed: whom one invites, or who invites.
@@ -215,7 +167,6 @@ fn append_named(
     let direction = advice.offers.direction;
     match advice.row {
         Row::Offers | Row::Resigns | Row::Owes => append_offers(&advice.offers, numbers, text),
-        Row::ServerPlays => append_way_out(advice.automove, advice.greedy, opponent, text),
         Row::Declined | Row::Same | Row::Back => append_ways(
             numbers.way(direction),
             advice.send,
