@@ -11,6 +11,7 @@ use Rattle.fibs_advice.specs.Trials.{tried, tried_on}
 use Rattle.fibs_advice.specs.declared.advised.Advice.{Advice}
 use Rattle.fibs_advice.specs.declared.trial.Trial.{Trial}
 use Rattle.fibs_terminal.specs.Drawings.{Draws, is_plain}
+use Rattle.fibs_terminal.specs.Rematch.{SaysRematch}
 use Rattle.fibs_terminal.specs.Resting.{Rests, SaysRow}
 use Rattle.fibs_terminal.specs.Sent.{AddsSent, ShowsSent, not_confirmed}
 use Rattle.fibs_terminal.specs.declared.memory.Memory.{Memory}
@@ -41,8 +42,9 @@ says_sent s x before after worded row = record {
   told = λ is. row;
 }
 
--- what is shown of a move, and then the row of an advice
-pub rests : (client : ClientValue) (s : Settings) (m : Memory) (before between after : List ℕ) (a : Advice)
-    → ShowsSent client s before between → ((t : Talk) → StandsAfter client t → Advises t m.here.situation.standing a)
-    → SaysRow s.numbers m.here.situation m.here.advising.says_again a between after → Rests client s m before after
-rests client s m before between after a sent advised said = (between, sent, (a, advised, said))
+-- what is shown of a move, how another match is played, and then the row of an advice
+pub rests : (client : ClientValue) (s : Settings) (m : Memory) (before shown said after : List ℕ) (a : Advice)
+    → ShowsSent client s before shown → SaysRematch m.here.situation.standing m.here.rematch shown said
+    → ((t : Talk) → StandsAfter client t → Advises t m.here.situation.standing a)
+    → SaysRow s.numbers m.here.situation m.here.advising.says_again a said after → Rests client s m before after
+rests client s m before shown said after a sent again advised row = (shown, said, sent, again, (a, advised, row))

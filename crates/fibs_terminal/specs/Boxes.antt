@@ -37,6 +37,7 @@ pub record IsEmptyList (l : PlayerList) : Type 0 where
   pub count : l.count ≡ 0
   pub last : l.last.items ≡ []
   pub name : l.name.items ≡ []
+  pub wanted : l.wanted ≡ None
 
 -- of a game that begins to be watched a board is wanted if, and only if, the user has asked to watch one
 abbrev pub wanted_at_begin : Wanted → Wanted
@@ -64,6 +65,7 @@ pub record IsFresh (c : Connection) : Type 0 where
   pub passing : c.passing ≡ Asks
   pub direction : c.direction ≡ None
   pub moves : c.lists_moves ≡ false
+  pub rematch : c.rematch ≡ None
 
 -- of what the user looks at, the move that was tried: it is sent only on the board on which that was done
 abbrev pub kept_looking : Looking → Looking

@@ -4,12 +4,14 @@ pub mod Again
 pub mod Asking
 pub mod Boxes
 pub mod Ended
+pub mod Fixing
 pub mod Endings
 pub mod Greetings
 pub mod Leaving
 pub mod LeftOut
 pub mod Grown
 pub mod HitsTold
+pub mod Rematch
 pub mod Resting
 pub mod Sending
 pub mod Sent

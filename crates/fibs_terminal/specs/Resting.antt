@@ -9,6 +9,7 @@ use Rattle.fibs_advice.specs.Rows.{is_asked_for}
 use Rattle.fibs_advice.specs.declared.advised.Advice.{Advice}
 use Rattle.fibs_advice.specs.declared.situation.Situation.{Situation}
 use Rattle.fibs_wording.specs.declared.environment.settings.Settings.{Settings}
+use Rattle.fibs_terminal.specs.Rematch.{SaysRematch}
 use Rattle.fibs_terminal.specs.Sent.{ShowsSent}
 use Rattle.fibs_terminal.specs.declared.memory.Memory.{Memory}
 
@@ -29,10 +30,12 @@ SaysAdvice client numbers memory before after = (a : Advice)
     × ((t : Talk) → StandsAfter client t → Advises t memory.here.situation.standing a)
     × SaysRow numbers memory.here.situation memory.here.advising.says_again a before after
 
--- before it stands the board after a move that was sent, if no board has confirmed it
+-- before it stand the board after a move that was sent, if no board has confirmed it, and how another match is played,
+-- if one has ended
 abbrev pub Rests : ClientValue → Settings → Memory → List ℕ → List ℕ → Type 0
-Rests client s memory before after = (between : List ℕ) × ShowsSent client s before between
-    × SaysAdvice client s.numbers memory between after
+Rests client s memory before after = (shown : List ℕ) × (said : List ℕ) × ShowsSent client s before shown
+    × SaysRematch memory.here.situation.standing memory.here.rematch shown said
+    × SaysAdvice client s.numbers memory said after
 
 -- the same for a writer
 abbrev pub ShowsAdvice : ClientValue → Settings → Memory → Option (List ℕ) → Option (List ℕ) → Type 0

@@ -31,13 +31,11 @@ use fibs_session::typed::meant::{is_command_by, meant_command, read_typed_by};
 use fibs_session::typed::taking::would_take;
 use fibs_session::typed::typing::Typed;
 use fibs_session::{Client, Directory, Refusal};
-use fibs_wording::environment::broken::break_at_spaces;
 use fibs_wording::environment::pieces::append_all;
 use fibs_wording::environment::shown::append_shown;
 use fibs_wording::environment::{Page, read_numbers};
 use fibs_wording::help;
 use fibs_wording::meant::meant_word;
-use fibs_wording::players::append_players;
 use fibs_wording::reasons::refusal_words;
 use fibs_wording::server_words::{is_leaving_word, is_passed, is_server_word};
 use std::alloc::{AllocError, Global};
@@ -69,6 +67,7 @@ enum Here {
     Matches,
     Reconnect,
     Stay,
+    Fix,
     Columns,
     Rows,
     Board,
@@ -120,6 +119,7 @@ fn own_word(word: &[u8]) -> Option<Own>
         b"matches" => Some(Own::Here(Here::Matches)),
         b"reconnect" => Some(Own::Here(Here::Reconnect)),
         b"stay" => Some(Own::Here(Here::Stay)),
+        b"fix" => Some(Own::Here(Here::Fix)),
         b"columns" => Some(Own::Here(Here::Columns)),
         b"rows" => Some(Own::Here(Here::Rows)),
         b"board" => Some(Own::Here(Here::Board)),
@@ -600,20 +600,12 @@ impl<'a> Screen<'a> {
                 .looking
                 .say_plays(client, small, &mut self.page),
             Here::Words => self.answer_words(client, small),
-            Here::Players => {
-                let is_told = self.page.settings.words;
-                let asker = self.memory.program.account.asker(is_told);
-                let start = self.page.text.len();
-                append_players(alloc, directory, rest, &asker, &mut self.page.text)?;
-                if is_told {
-                    break_at_spaces(start, self.page.columns(), &mut self.page.text);
-                }
-                Ok(())
-            }
+            Here::Players => self.answer_players(client, directory, rest),
             Here::Moves => say_moves(&self.memory.here.table.story, small, &mut self.page),
             Here::Matches => self.say_matches(rest),
             Here::Reconnect => self.ask_reconnect(client),
             Here::Stay => self.stay(),
+            Here::Fix => self.fix(client),
             Here::Columns => self.set_columns(small),
             Here::Rows => self.set_rows(small),
             Here::Board => self.place_board(small),

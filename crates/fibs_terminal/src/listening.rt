@@ -8,7 +8,7 @@ use crate::company::is_told;
 use crate::listening::left_out::{
     Known, LeftOut, Seen, change_left_out, message_left_out, player_of, text_left_out,
 };
-use crate::people::ListAsked;
+use crate::people::{ListAsked, say_players};
 use crate::results::Rated;
 use crate::screen::{Moment, Screen};
 use crate::talk::Talk;
@@ -23,7 +23,7 @@ use fibs_wording::environment::Page;
 use fibs_wording::environment::broken::break_at_spaces;
 use fibs_wording::lists::append_greeting;
 use fibs_wording::messages::append_message;
-use fibs_wording::players::{append_players, count_players};
+use fibs_wording::players::count_players;
 use fibs_wording::reasons::append_malformed;
 pub use greeting::Greeting;
 use std::alloc::AllocError;
@@ -317,20 +317,18 @@ impl<'a> Screen<'a> {
         if here.greeting.awaits_list() && here.list.is_of_login(own) {
             here.greeting.hear_listed();
             here.list.forget();
-            return self.say_greeting();
+            self.say_greeting()?;
+            return self.say_wanted();
         }
         if here.list.is_of_everybody() {
             here.list.forget();
-            let is_told = self.page.settings.words;
-            let asker = self.memory.program.account.asker(is_told);
-            let alloc = self.page.alloc;
-            let listed = here.company.listed();
-            let start = self.page.text.len();
-            append_players(alloc, listed, b"", &asker, &mut self.page.text)?;
-            if is_told {
-                break_at_spaces(start, self.page.columns(), &mut self.page.text);
-            }
-            return Ok(());
+            let _shown_now = here.list.take_wanted();
+            return say_players(
+                here.company.listed(),
+                b"",
+                &self.memory.program.account,
+                &mut self.page,
+            );
         }
         here.list.hear_end(left_out.is_none(), &mut self.page)
     }

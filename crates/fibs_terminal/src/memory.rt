@@ -7,10 +7,12 @@ ghost use Rattle.fibs_terminal.specs.Tables.{IsNewStory, no_boards, none_drawn};
 use crate::account::Account;
 use crate::company::Company;
 use crate::drawing::{Above, Watching};
+use crate::fixing::Fixing;
 use crate::listening::Greeting;
 use crate::looking::Looking;
 use crate::people::{List, People};
 use crate::reconnecting::Reconnecting;
+use crate::rematch::Rematch;
 use crate::resting::Advising;
 use crate::results::Results;
 use crate::table::{KeptTable, Table};
@@ -45,6 +47,8 @@ pub struct Program {
     pub results: Results,
     /// Whether a connection that has ended is opened again.
     pub reconnecting: Reconnecting,
+    /// How what the server plays by itself is turned off.
+    pub fixing: Fixing,
     /// The title of the window.
     pub title: Title,
     /// The upper rows, in which the newest board stands.
@@ -85,6 +89,8 @@ pub struct Connection {
     pub direction: Option<Direction>,
     /// Whether the last line that was sent asks for the moves of a game.
     pub lists_moves: bool,
+    /// The match that has ended, until it is said how another one is played.
+    pub rematch: Option<Rematch>,
 }
 
 /// What outlives a connection: of the match that may have been saved, and of the game in it.
@@ -132,6 +138,7 @@ impl Program {
             account: Account::new(alloc),
             results: Results::new(),
             reconnecting: Reconnecting::new(),
+            fixing: Fixing::new(),
             title: Title::new(alloc),
             above: Above::new(),
             converses: false,
@@ -182,6 +189,7 @@ impl Connection {
             passing: Passing::Asks,
             direction: None,
             lists_moves: false,
+            rematch: None,
         }
     }
 

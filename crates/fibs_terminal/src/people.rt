@@ -1,14 +1,26 @@
 //! Whose words are hidden, and who was listed.
+ghost use Rattle.std.specs.Prelude.{◌≡◌, IfSome, IsSome, None, OnOk};
 ghost use Rattle.fibs_terminal.specs.Boxes.{IsEmptyList};
 
+use crate::account::Account;
+use crate::screen::Screen;
 use fibs_fields::name::Name;
 use fibs_fields::split::split;
 use fibs_messages::WhoInfo;
+use fibs_position::Decision;
+use fibs_session::{Client, Directory, Refusal};
 use fibs_wording::environment::Page;
+use fibs_wording::environment::broken::break_at_spaces;
 use fibs_wording::environment::pieces::short_name;
 use fibs_wording::lists::append_count;
 use fibs_wording::messages::append_player;
+use fibs_wording::players::append_players;
 use std::alloc::{AllocError, Global};
+use std::mem;
+
+/// What is said if the list of players is still to come.
+const NOT_LISTED_YET: &[u8] =
+    b"Not listed yet: the players are shown as soon as the server has listed them.\n";
 
 /// Whose words are hidden.
 #[derive(Drop)]
@@ -133,6 +145,8 @@ pub struct List {
     last: Vec<u8>,
     /// The name of the last of them.
     name: Vec<u8>,
+    /// What followed `players`, if the user has typed it before the list of the login, which is shown when it comes.
+    wanted: Option<Vec<u8>>,
 }
 
 impl List {
@@ -145,7 +159,25 @@ impl List {
             count: 0,
             last: Vec::new(alloc),
             name: Vec::new(alloc),
+            wanted: None,
         }
+    }
+
+    /// The user has asked by these words for the list that is to come.
+    pub fn want(&mut self, alloc: Global, words: &[u8]) -> Result<(), AllocError>
+        ensures asked { OnOk result (IsSome self.new.wanted) }
+        ensures words { OnOk result (IfSome self.new.wanted (λ wanted. wanted.items ≡ words.now)) }
+    {
+        self.wanted = Some(Vec::from_slice(alloc, words)?);
+        Ok(())
+    }
+
+    /// By which words he has asked for the list that has come, if he has. It is shown once.
+    pub fn take_wanted(&mut self) -> Option<Vec<u8>>
+        ensures words { result ≡ self.old.wanted }
+        ensures once { self.new.wanted ≡ None }
+    {
+        mem::replace(&mut self.wanted, None)
     }
 
     /// The user has sent a line as it is.
@@ -162,6 +194,11 @@ impl List {
         self.name.extend_from_slice(info.name.bytes())?;
         self.last.clear();
         append_player(info, &mut self.last)
+    }
+
+    /// Whether players were listed since the last list ended.
+    pub fn is_coming(&self) -> bool {
+        self.count > 0
     }
 
     /// Who was listed last; empty if nobody was.
@@ -202,6 +239,69 @@ impl List {
             page.say(b"\n")
         } else {
             Ok(())
+        }
+    }
+}
+
+/// Lists the players for whom the user asks by words.
+pub(crate) fn say_players(
+    players: &Directory,
+    words: &[u8],
+    account: &Account,
+    page: &mut Page<'_>,
+) -> Result<(), AllocError> {
+    let alloc = page.alloc;
+    let is_told = page.settings.words;
+    let start = page.text.len();
+    append_players(
+        alloc,
+        players,
+        words,
+        &account.asker(is_told),
+        &mut page.text,
+    )?;
+    if is_told {
+        break_at_spaces(start, page.columns(), &mut page.text);
+    }
+    Ok(())
+}
+
+impl<'a> Screen<'a> {
+    /// Answers `players`, by what follows it: if the list of the login is still to come, it is shown then.
+    pub(crate) fn answer_players(
+        &mut self,
+        client: &Client,
+        directory: &Directory,
+        words: &[u8],
+    ) -> Result<(), AllocError>
+        ensures { self.new.memory.here.looking ≡ self.old.memory.here.looking }
+    {
+        let logs_in = client.refusal(&Decision::Roll) == Some(Refusal::NotReady);
+        let is_due = logs_in || self.memory.here.greeting.awaits_list();
+        if is_due && (directory.is_empty() || self.memory.here.list.is_coming()) {
+            let alloc = self.page.alloc;
+            self.memory.here.list.want(alloc, words)?;
+            return self.page.say(NOT_LISTED_YET);
+        }
+        say_players(
+            directory,
+            words,
+            &self.memory.program.account,
+            &mut self.page,
+        )
+    }
+
+    /// The list of the login has come: it is shown, if the user has asked for it.
+    pub(crate) fn say_wanted(&mut self) -> Result<(), AllocError> {
+        let here = &mut self.memory.here;
+        match here.list.take_wanted() {
+            None => Ok(()),
+            Some(words) => say_players(
+                here.company.listed(),
+                words.as_slice(),
+                &self.memory.program.account,
+                &mut self.page,
+            ),
         }
     }
 }

@@ -195,7 +195,10 @@ impl<'a> Screen<'a> {
         let lasted = moment.passed.saturating_sub(self.memory.here.opened);
         let reconnecting = &mut self.memory.program.reconnecting;
         reconnecting.hear_lost(lasted.as_secs() >= LASTED);
-        match reconnecting.seconds() {
+        let seconds = reconnecting.seconds();
+        let fixes = self.memory.program.fixing.hear_lost(seconds.is_some());
+        match seconds {
+            None if fixes => self.page.say(b"lost: connecting again\n"),
             None => self.page.say(b"lost: open connects again, quit ends\n"),
             Some(seconds) => say_seconds(seconds, b"lost: connecting again in ", &mut self.page),
         }

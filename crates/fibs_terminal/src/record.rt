@@ -1,6 +1,7 @@
 //! The record: a line for each match of the user that has ended, in a file.
 ghost use Rattle.std.specs.Prelude.{◌≡◌, ◌≤◌, length};
 
+use crate::rematch::Rematch;
 use crate::results::{Ended, Rated, score_on};
 use crate::screen::{Moment, Screen};
 use crate::terminal::Terminal;
@@ -149,7 +150,9 @@ impl<'a> Screen<'a> {
             return Ok(());
         };
         let results = &mut self.memory.program.results;
-        match results.end_match(opponent, ending.score, moment.time) {
+        let before = results.end_match(opponent, ending.score, moment.time);
+        self.memory.here.rematch = results.unrated().map(Rematch::after);
+        match before {
             None => Ok(()),
             Some(unrated) => self.keep_match(&unrated, None),
         }

@@ -4,6 +4,7 @@ ghost use Rattle.fibs_advice.specs.Rows.{is_asked_for};
 ghost use Rattle.fibs_terminal.specs.Boxes.{IsQuiet};
 ghost use Rattle.fibs_terminal.specs.Resting.{Rests, SaysRow};
 
+use crate::rematch::say_rematch;
 use crate::screen::{Moment, Screen};
 use fibs_advice::advised::{Advice, Aside, advised};
 use fibs_advice::row::Row;
@@ -96,8 +97,8 @@ fn aside_of(situation: &Situation, directory: &Directory, passed: Duration) -> A
 }
 
 impl<'a> Screen<'a> {
-    /// Shows the board after a move that was sent, if no board has confirmed it and none stands above, and says what is
-    /// advised.
+    /// Shows the board after a move that was sent, if no board has confirmed it and none stands above; says how another
+    /// match is played after one that has ended, and what is advised.
     pub(crate) fn rest(
         &mut self,
         client: &Client,
@@ -114,10 +115,18 @@ impl<'a> Screen<'a> {
         here.table
             .boards
             .show_sent_below(alloc, client, is_held, &page.settings, &mut page.text)?;
+        let columns = page.columns();
+        let standing = here.situation.standing;
+        say_rematch(&here.rematch, standing, columns, &mut page.text)?;
+        here.rematch = None;
         let passed = moment.passed.saturating_sub(here.opened);
         let aside = aside_of(&here.situation, directory, passed);
         let advice = advised(alloc, client, &here.situation, aside)?;
         here.advising.say(&advice, &here.situation, page)?;
+        self.memory
+            .program
+            .fixing
+            .rest(advice.automove, advice.greedy);
         Ok(())
     }
 }

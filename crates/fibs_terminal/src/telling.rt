@@ -71,6 +71,12 @@ fn words_of(why: Refusal, rule: &[u8], standing: Standing) -> &[u8] {
     }
 }
 
+/// Whether a match may begin by a command: then it is said again that the server plays for the user.
+fn begins_match(command: &[u8]) -> bool {
+    let word = split(command, b' ').0;
+    word == b"invite".as_slice() || word == b"join".as_slice()
+}
+
 impl<'a> Screen<'a> {
     /// Hears one thing, and makes the text that is written for it.
     pub fn hear(&mut self, said: &Said<'_>, moment: Moment) -> Result<(), AllocError> {
@@ -177,6 +183,9 @@ impl<'a> Screen<'a> {
         }
         if bytes == b"who".as_slice() {
             here.list.asked = ListAsked::Everybody;
+        }
+        if here.greeting.plays_itself() && begins_match(bytes) {
+            here.advising.says_again = true;
         }
         self.say_sent(b"sent ", bytes, b"")
     }

@@ -11,6 +11,7 @@ ghost use Rattle.fibs_terminal.specs.Resting.{ShowsAdvice};
 ghost use Rattle.fibs_terminal.specs.Sending.{SendsOnWord};
 ghost use Rattle.fibs_terminal.specs.Trying.{GoesOn, ShowsTried, WritesTry};
 
+use crate::fixing::FixLine;
 use crate::screen::{Moment, Screen};
 use fibs_connect::fault::FrontFault;
 use fibs_connect::front::Front;
@@ -36,6 +37,8 @@ pub struct Terminal<'a, W: Write + Drop, C: Clock + Drop> {
     pub(crate) due: Option<&'a Cell<Option<Duration>>>,
     /// Where it says that `board` is to be sent for the user.
     asks_board: Option<&'a Cell<bool>>,
+    /// Where it says which line of `fix` is to be typed for him.
+    pub(crate) fixes: Option<&'a Cell<Option<FixLine>>>,
 }
 
 impl<'a, W: Write + Drop, C: Clock + Drop> Terminal<'a, W, C> {
@@ -49,6 +52,7 @@ impl<'a, W: Write + Drop, C: Clock + Drop> Terminal<'a, W, C> {
             out,
             due: None,
             asks_board: None,
+            fixes: None,
         }
     }
 
@@ -136,6 +140,7 @@ impl<W: Write + Drop, C: Clock + Drop> Words for Terminal<'_, W, C> {
                 let reconnecting = &mut self.screen.memory.program.reconnecting;
                 reconnecting.rest(moment.passed, self.due);
                 self.screen.memory.here.watching.ask_by(self.asks_board);
+                self.screen.memory.program.fixing.type_by(self.fixes);
                 write_text(self.screen.page.text.as_slice(), &mut self.out)?;
                 self.out.flush().map_err(|_| FrontFault::Output)
             }
