@@ -1,12 +1,13 @@
 //! What goes as if it were typed: the standing order that the user's own settings ask for, as soon as there is a
-//! connection; `board`, if the user watches a game of which no board has come; the end, if the server asks for the
-//! login once more; and `open` when the time has come at which the terminal connects again. Where a terminal is read,
-//! the end of what is typed goes as `quit` too.
+//! connection; `board`, if the user watches a game of which no board has come; the lines of `fix`; the end, if the
+//! server asks for the login once more; and `open` when the time has come at which the terminal connects again. Where a
+//! terminal is read, the end of what is typed goes as `quit` too.
 ghost use Rattle.std.specs.Prelude.{◌≤◌, length};
 
 use crate::player::refusing::Refusing;
 use fibs_connect::watch::{First, Patience, Watch};
 use fibs_engine::dial::Dial;
+use fibs_terminal::FixLine;
 use std::cell::Cell;
 use std::io;
 use std::io::{ErrorKind, Read};
@@ -34,6 +35,8 @@ pub struct Dues {
     pub order: Cell<bool>,
     /// A board of the game that is watched is to be asked for.
     pub board: Cell<bool>,
+    /// A line of `fix` is.
+    pub fix: Cell<Option<FixLine>>,
     /// The end is: the server has refused the login.
     pub end: Cell<bool>,
     /// It is time to connect again.
@@ -48,6 +51,7 @@ impl Dues {
         Dues {
             order: Cell::new(false),
             board: Cell::new(false),
+            fix: Cell::new(None),
             end: Cell::new(false),
             open: Cell::new(false),
             open_at: Cell::new(None),
@@ -56,7 +60,11 @@ impl Dues {
 
     /// Whether a line is.
     fn is_any(&self) -> bool {
-        self.order.get() || self.board.get() || self.end.get() || self.open.get()
+        self.order.get()
+            || self.board.get()
+            || self.fix.get().is_some()
+            || self.end.get()
+            || self.open.get()
     }
 
     /// How long it is until `open` is due; None if it never is. If it is due now, that is kept.
@@ -133,7 +141,11 @@ impl<'a, 'b, R: Read> OrderedInput<'a, 'b, R> {
     fn put_end(&mut self, buf: &mut [u8]) -> usize
         ensures { result ≤ length buf.new }
     {
-        let text = if self.is_between_lines { QUIT } else { BREAK_QUIT };
+        let text = if self.is_between_lines {
+            QUIT
+        } else {
+            BREAK_QUIT
+        };
         if !self.quits_at_end || buf.len() < text.len() {
             return 0;
         }
@@ -163,6 +175,14 @@ impl<R: Read> Read for OrderedInput<'_, '_, R> {
             self.dues.board.set(false);
             buf[..BOARD.len()].copy_from_slice(BOARD);
             return Ok(BOARD.len());
+        }
+        if let Some(line) = self.dues.fix.get() {
+            let bytes = line.bytes();
+            if self.is_between_lines && buf.len() >= bytes.len() {
+                self.dues.fix.set(None);
+                buf[..bytes.len()].copy_from_slice(bytes);
+                return Ok(bytes.len());
+            }
         }
         let count = self.typed.read(buf)?;
         if count == 0 {

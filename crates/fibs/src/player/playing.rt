@@ -110,6 +110,7 @@ fn talk_at_terminal<'a, D: Dial, R: Read, V: Patience>(
     let alloc = rt.alloc();
     let mut front = Terminal::new(alloc, &mut *out, rt, shown);
     front.ask_for_boards(&dues.board);
+    front.fix_by(&dues.fix);
     let configured = front.configure(config).map_err(EngineFault::from);
     unless_memory_ran_out(configured, &front)?;
     front.keep_record(RecordFile::of(rt)?);
