@@ -1,9 +1,10 @@
 """A quiet screen: what is left out in a match, how a login and a game end, and talk of any letters."""
 
 import re
+import time
 
 from company import rows_after
-from people import SOON, Client, near_and_far, same
+from people import SOON, Client, greeted, near_and_far, same, with_listener
 
 SCENES = []
 
@@ -75,6 +76,56 @@ def the_end_of_a_game_is_told_once(table):
     end = next(at for at, row in enumerate(rows) if row.startswith('bob wins the game'))
     same('the rows of the end', rows[end:], [
         'bob wins the game, and 1 point. You 0, bob 1 of 2.', 'The game is over: join goes on, leave saves the match.'])
+
+
+@near_and_far(SCENES, '--dice', '31,31')
+def the_end_of_a_match_says_what_next(table):
+    """The result, the rating, what next: one row each, and the lines that the last one names are taken. In small
+    portions the rating may come last."""
+    ann, bob = table.ann, table.bob
+    table.begins(1)
+    ann.hint()
+    ann.type('resign n')
+    bob.sees('ann wants to resign. ..')
+    bob.send('accept')
+    line, players = ann.advised('again', 'invite bob 1', 'players ready')
+    if not rows_with(ann, 'You are rated'):
+        ann.reads('You are rated')
+    rows = ann.lines()
+    end = next(at for at, row in enumerate(rows) if row.startswith('bob wins the game'))
+    first, *others = [row.split(' ')[0] for row in rows[end:]]
+    same('the rows of the end', (first, sorted(others)), ('bob', ['You', 'invite']))
+    ann.type(players)
+    ann.reads(' player')
+    ann.type(line)
+    bob.sees("Type 'join ann' to accept.")
+    bob.send('join ann')
+    ann.hint()
+    ann.was_not_refused()
+
+
+@with_listener
+def players_that_are_not_listed_yet_follow(server):
+    """The list of the login takes its time, and comes in portions: it is shown when it is whole, and once."""
+    ann = greeted(server)
+    ann.type('players')
+    ann.reads('Not listed yet: the players are shown')
+    for name in 'bob', 'ann', 'eve':
+        server.send('5 %s - - 1 0 1500.00 0 0 1 host - -' % name)
+        time.sleep(0.3)
+    same('what is listed before its end', rows_with(ann, 'bob '), [])
+    server.send('6', "** You're not playing. ")
+    ann.reads('Rated 1500.00. 2 players, 2 ready.')
+    server.send('12 bob hi')
+    ann.reads('bob says: hi')
+    same('rows', [row.split(' ')[0] for row in ann.lines() if row.startswith(('player ', 'bob ', 'eve ', '2 players'))],
+         ['player', 'bob', 'eve', '2'])
+    same('what is left out', rows_with(ann, 'not playing'), [])
+    ann.quits()
+    ann.close()
+
+
+SCENES.append(players_that_are_not_listed_yet_follow)
 
 
 @near_and_far(SCENES, '--dice', '31')

@@ -129,22 +129,21 @@ SCENES += [no_server, no_such_name]
 # -- a server that plays by itself -----------------------------------------------------------------------------------
 
 def by_itself(*turned_on):
-    """A scene: the account has these on. The screen says so at the login and under the board, and each line of the
-    way that it names is typed as it comes."""
+    """A scene: the account has these on. The screen says so at the login and under the board, and `fix` does the way:
+    in a match `bye` is asked about."""
     settings = [word for name in turned_on for word in ('--set', 'ann:%s=1' % name)]
 
     def scene(table):
         ann, bob = table.ann, table.bob
-        ann.advised('auto', *('toggle ' + name for name in turned_on))
+        ann.advised('auto', 'fix')
         table.begins()
+        ann.reads('Starting a new game with bob.')
+        ann.types_what('auto', 'fix')
         for name in turned_on:
-            ann.types_what('auto', 'toggle ' + name)
-        ann.advised('auto', 'bye')
-        ann.type('help')
-        ann.types_what('auto', 'bye')
+            ann.reads('sent toggle ' + name)
         ann.types_what('leave', 'bye')
-        ann.types_what('open', 'open')
-        ann.reads('Welcome, ann')
+        for row in 'sent bye', 'lost: connecting again', 'connected to', 'Welcome, ann':
+            ann.reads(row)
         ann.types_what('gone', 'invite bob')
         bob.sees("Type 'join ann' to accept.")
         bob.send('join ann')
@@ -158,6 +157,24 @@ def by_itself(*turned_on):
 by_itself('automove')
 by_itself('greedy')
 by_itself('automove', 'greedy')
+
+
+@near_and_far(SCENES, *ANN_BEGINS, '--set', 'ann:automove=1', '--set', 'ann:greedy=1')
+def what_the_server_plays_is_turned_off_before_a_match(table):
+    """By one word; then the login ends as any other, and a match begins."""
+    ann = table.ann
+    ann.types_what('auto', 'fix')
+    for row in ('sent toggle automove', 'sent toggle greedy', 'sent bye', 'lost: connecting again', 'Welcome, ann',
+                'Type players ready, then invite NAME 5.'):
+        ann.reads(row)
+    ann.type('fix')
+    ann.reads('fix: the server plays nothing for you.')
+    table.begins()
+    ann.types_what('hint', 'move')
+    table.bob.sees('ann moves ..')
+    same('what was sent', [row for row in ann.lines() if row.startswith('sent ') and 'move ' not in row],
+         ['sent toggle automove', 'sent toggle greedy', 'sent bye', 'sent invite bob 3'])
+    ann.was_not_refused()
 
 
 # -- a client that rolls by itself -----------------------------------------------------------------------------------

@@ -429,6 +429,78 @@ def an_offer_that_gave_the_turn_away_is_over_after_a_new_connection(table):
     ann_rolls(table, 'hint')
 
 
+# -- his offer is made while she has no connection ---------------------------------------------------------------------
+
+def offers_while_she_is_away(table, line, heard):
+    """Her connection has ended, and her place is still hers; bob makes an offer, which she does not hear. The new
+    connection is told only what the board shows."""
+    bob_is_to_roll(table)
+    Client(table.server.port, 'ann', PASSWORD).close()
+    table.ann.advised('open', 'open')
+    table.bob.send(line)
+    table.bob.sees(heard)
+    table.ann.type('open')
+    table.ann.reads('Welcome, ann')
+
+
+@near_and_far(SCENES, *ANN_BEGINS, '--keep-games')
+def a_double_while_she_was_away(table):
+    """The board says it."""
+    offers_while_she_is_away(table, 'double', 'You double. ..')
+    table.ann.types_what('hint', 'accept', 'reject')
+    table.bob.sees('ann accepts the double. The cube shows 2.')
+    table.ann.was_not_refused()
+
+
+@near_and_far(SCENES, *ANN_BEGINS, '--keep-games')
+def an_offer_to_resign_while_she_was_away(table):
+    """No board says it, and no row says anything else; if bob tells her, it goes past the client."""
+    offers_while_she_is_away(table, 'resign n', 'You want to resign. ..')
+    never_advised(table.ann, ('hint', 'go on', 'answer', 'board', 'old'), 1.5)
+    table.ann.type('help')
+    never_advised(table.ann, ('hint', 'go on', 'answer', 'board', 'old'))
+    table.ann.type('send accept')
+    table.bob.sees('ann accepts and wins 1 point.')
+    goes_on_to_the_next_game(table)
+
+
+@near_and_far(SCENES, *ANN_BEGINS, '--keep-games', '--show-resignations')
+def an_offer_to_resign_while_she_was_away_that_gives_the_turn_away(table):
+    """The board says that she may roll: the server's answer to that tells of the offer."""
+    offers_while_she_is_away(table, 'resign n', 'You want to resign. ..')
+    table.ann.types_what('hint', 'roll')
+    table.ann.types_what('answer', 'accept', 'reject')
+    table.ann.reads("sent on the server's word: accept")
+    table.bob.sees('ann accepts and wins 1 point.')
+    goes_on_to_the_next_game(table)
+
+
+@at_a_table(*ANN_BEGINS, *CROSSING)
+def a_double_crosses_her_leaving(table):
+    """She never hears it; the match that was saved comes with it."""
+    bob_is_to_roll(table)
+    table.bob.send('double')
+    table.comes_again()
+    takes_up(table)
+    table.ann.types_what('hint', 'accept', 'reject')
+    table.bob.sees('ann accepts the double. The cube shows 2.')
+
+
+@at_a_table(*ANN_BEGINS, *CROSSING)
+def an_offer_to_resign_crosses_her_leaving(table):
+    bob_is_to_roll(table)
+    table.bob.send('resign n')
+    table.comes_again()
+    takes_up(table)
+    table.ann.types_what('answer', 'accept', 'reject')
+    table.ann.reads("sent on the server's word: accept")
+    table.bob.sees('ann accepts and wins 1 point.')
+    goes_on_to_the_next_game(table)
+
+
+SCENES += [a_double_crosses_her_leaving, an_offer_to_resign_crosses_her_leaving]
+
+
 # -- her own offer is open while her connection ends -------------------------------------------------------------------
 
 # What is false while he has her offer.

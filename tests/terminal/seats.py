@@ -256,6 +256,8 @@ class Seat:
             return 'right' if kind == 'open' else 'false'
         if kind == 'leave':
             return 'right' if any(one.match is not None for one in moments) else 'false'
+        if kind == 'again':
+            return 'right' if any(one.match is None for one in moments) else 'false'
         if kind == 'auto':
             return 'right' if self.game.room.informed.get(self.name) else 'false'
         if kind == 'gone':

@@ -13,8 +13,8 @@ WAYS = r'(%s)(?:, or (%s))?\.' % (WAY, WAY)
 
 # Kinds: `hint`, what the client takes now; `answer`, an offer of which texts alone tell; `board`, that is to be asked
 # for, and `doubles`, that it is for a double; `go on`, what is decided in place of what waits; `wait`, what is said if
-# one asks; `next`, between two games; `gone`, a match that may be saved; `invited`; `auto`, the server plays by itself;
-# `open`, there is no connection; `leave`, a match is on; `login`, it was refused.
+# one asks; `next`, between two games; `again`, after a match; `gone`, a match that may be saved; `invited`; `auto`, the
+# server plays by itself; `open`, there is no connection; `leave`, a match is on; `login`, it was refused.
 ROWS = [(kind, re.compile(form), more) for kind, form, *more in [
     ('hint', r'Your turn: (roll)\.'),
     ('hint', r'Your turn: (roll), or (double)\.'),
@@ -46,8 +46,8 @@ ROWS = [(kind, re.compile(form), more) for kind, form, *more in [
     ('invited', r'\S+ (?:\(.*\) )?invites you to .*: (join \S+)'),
     ('gone', r'\S+ is here: your match \(.*\) is saved: (invite \S+)\.'),
     ('gone', r'(invite \S+)\.'),
-    ('auto', r'The server plays for you: (?:(toggle automove), then )?(?:(toggle greedy), then )?(bye),'),
-    ('auto', r'then (open)(?:, and (invite \S+))?\.'),
+    ('again', r'(invite \S+ \d+) plays another match; (players ready) lists others\.'),
+    ('auto', r'The server plays for you: (fix) turns it off, and logs in again\.'),
     ('open', r'lost.*: (open) connects again, (quit) ends'),
     ('open', r'no connection to .*', 'open', 'quit'),
     ('leave', r'You are in a match.*: (quit|bye) again leaves\.'),

@@ -4,6 +4,7 @@ use super::connect::Door;
 use crate::fibs::player::ordering::{Dues, OrderedInput, OrderedServer, OrderedWatch};
 use crate::fibs_connect::watch::{First, Patience, Watch};
 use crate::fibs_engine::dial::Dial;
+use crate::fibs_terminal::FixLine;
 use crate::fibs_test_tools::pipe::{After, Pipe};
 use crate::rattle::io;
 use crate::rattle::io::Read;
@@ -37,6 +38,26 @@ fn an_order_comes_between_two_lines() {
     assert_eq!(read_with_order(b"roll\nplays\n", 1), "roll\nplays\norder roll\n");
     assert_eq!(read_with_order(b"hi roll\nok\n", 1), "hi roll\nok\norder roll\n");
     assert_eq!(read_with_order(b"ok\nroll\n", 1), "ok\norder roll\nroll\n");
+}
+
+/// So is a line of `fix`, once.
+#[test]
+fn a_line_of_fix_comes_between_two_lines() {
+    let dues = Dues::new();
+    let mut pipe = Pipe::new(b"roll\nplays\n", 3, After::End, 0);
+    let mut input = OrderedInput::new(&mut pipe, &dues);
+    let mut text = Vec::new();
+    let mut room = [0; 64];
+    for number in 0.. {
+        if number == 1 {
+            dues.fix.set(Some(FixLine::Bye));
+        }
+        match input.read(&mut room).expect("it is read") {
+            0 => break,
+            count => text.extend_from_slice(&room[..count]),
+        }
+    }
+    assert_eq!(String::from_utf8(text).expect("ASCII"), "roll\nplays\nbye\n");
 }
 
 /// It is due once a connection was made, and only then; if it is asked for.

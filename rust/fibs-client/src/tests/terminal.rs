@@ -9,6 +9,7 @@ mod boxes;
 mod columns;
 mod conversations;
 mod endings;
+mod fixing;
 mod flushing;
 mod heard;
 mod hits;

@@ -370,7 +370,8 @@ static ENDS: [Scene; 9] = [
             Cue::Hears(b"eve wins a 3 point match against carol  3-1 .\r\n"),
             Cue::Rests,
         ],
-        "3-1 .\neve wins a 3 point match against carol  3-1 .\n",
+        "3-1 .\neve wins a 3 point match against carol  3-1 .\n\
+         invite bob 3 plays another match; players ready lists others.\n",
     ),
     (&[Cue::Hears(WON), Cue::Rests], "You win the game by a backgammon, and 3 points, and the 3 point match 3-1.\n"),
     (
@@ -455,7 +456,7 @@ static LOGINS: [Scene; 6] = [
     ),
     (
         &[Cue::Loses, Cue::Opens, Cue::Hears(WELCOME), Cue::Hears(AUTOMOVE), Cue::Hears(TO_ROLL), Cue::Rests],
-        "The server plays for you: toggle automove, then bye,\nthen open, and invite bob.\n",
+        "The server plays for you: fix turns it off, and logs in again.\n",
     ),
     (
         &[
@@ -467,7 +468,7 @@ static LOGINS: [Scene; 6] = [
             Cue::Types(b"roll"),
             Cue::Rests,
         ],
-        "automove or greedy is on. [4 ServerPlays]\nThe server plays for you: toggle automove, then toggle greedy, then bye,\nthen open, and invite bob.\n",
+        "automove or greedy is on. [4 ServerPlays]\nThe server plays for you: fix turns it off, and logs in again.\n",
     ),
     (
         &[
@@ -480,7 +481,7 @@ static LOGINS: [Scene; 6] = [
             Cue::Types(b"toggle automove"),
             Cue::Rests,
         ],
-        "[10 NotOn]\nThe server plays for you: bye,\nthen open, and invite bob.\n",
+        "[10 NotOn]\nThe server plays for you: fix turns it off, and logs in again.\n",
     ),
 ];
 

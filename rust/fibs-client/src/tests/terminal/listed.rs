@@ -64,7 +64,10 @@ fn players_are_listed_by_words() {
 
 /// So many players, with ratings that are so far apart.
 fn many(count: usize) -> Vec<String> {
-    (0..count).map(|at| player(&format!("Pl{at:02}"), "- - 1 0", &format!("{}.00", 1000 + 100 * at), 0, 0)).collect()
+    (0..count)
+        .map(|at| player(&format!("Pl{at:02}"), "- - 1 0", &format!("{}.00", 1000 + 100 * at), 0, 0))
+        .chain(["6\r\n".to_owned()])
+        .collect()
 }
 
 /// Who is listed, in this order.
@@ -91,6 +94,37 @@ fn the_nearest_are_listed_first_and_no_more_than_sixteen() {
     let unrated: Vec<_> = many(18).into_iter().map(|line| Cue::Hears(line.into_bytes().leak())).collect();
     let found = shown(plain_settings(), &unrated, &[Cue::Types(b"players")]);
     assert!(found.starts_with("The best first:\n") && names(&found).starts_with(&["Pl17", "Pl16"]), "{found}");
+}
+
+const NOT_YET: &str = "Not listed yet: the players are shown as soon as the server has listed them.\n";
+
+/// Before the list of the login has come, before its end too: it is shown when it has come, once, and only as it was
+/// asked for last.
+#[test]
+fn players_that_are_not_listed_yet_are_shown_when_they_are() {
+    let rows = format!("{HEAD}{DORA}{LONG}2 players.\n");
+    let list = some();
+    let mut list: Vec<_> = list.iter().map(|line| Cue::Hears(line.as_bytes())).collect();
+    let types = Cue::Types(b"players ready");
+    let login = [Cue::Hears(WELCOME), Cue::Hears(SETTINGS)];
+    let after = [Cue::Hears(b"** You're not playing. \r\n"), Cue::Hears(b"5 dora - - 1 1 1500.00 7 86400 0 h - -\r\n")];
+    for at in 0..list.len() {
+        let steps =
+            [&list[..at], &[Cue::Types(b"players"), types], &list[at..], &after, &[Cue::Hears(b"6\r\n")]].concat();
+        let text = shown_then(plain_settings(), &login, &steps);
+        let wanted = format!("{NOT_YET}{NOT_YET}{rows}");
+        assert_wanted(text.starts_with(&wanted), &text, &wanted);
+        assert!(text.matches(HEAD).count() == 1 && !text.contains("not playing"), "{text}");
+    }
+    // before the server has greeted the user
+    let steps = [&[types], &login[..], &list].concat();
+    let text = shown(plain_settings(), &[], &steps);
+    assert_wanted(text.starts_with(NOT_YET) && text.ends_with(&rows), &text, &rows);
+    // the list that `who` brings is shown in its place
+    list.insert(0, Cue::Types(b"who"));
+    list.insert(0, types);
+    let text = shown_then(plain_settings(), &login, &[&list[..], &after[..1]].concat());
+    assert!(text.matches(HEAD).count() == 1 && text.contains("6 players.\n"), "{text}");
 }
 
 /// Who the server says last that the user is counts.

@@ -185,6 +185,7 @@ dave, rated 900, experience 12, plays eve, away, idle for 2 hours.\n\
         &[
             Cue::Types(b"columns 30"),
             Cue::Hears(b"5 bob - - 1 0 1623.45 4012 0 1 host - -\r\n"),
+            Cue::Hears(b"6\r\n"),
             Cue::Types(b"players"),
         ],
         "\nbob, rated 1623, experience\n4012, ready.\n1 player.\n",

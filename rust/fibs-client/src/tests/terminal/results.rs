@@ -78,6 +78,68 @@ fn a_rating_is_said_once_after_a_match() {
     }
 }
 
+/// A name as long as one may be.
+const LONG: &str = "a_name_of_sixty_four_bytes_as_long_as_a_player_may_have_one_here";
+
+/// Steps, and what the screen shows of them from the end of the match on, if that is said.
+static NEXTS: [(&[Cue<'static>], &str); 6] = [
+    // the result, the rating, what next: once
+    (
+        &[Hears(SETTINGS), Hears(BEGINS), Hears(WINS), Hears(OF_BOB), Hears(RATED), Cue::Rests, Cue::Rests],
+        "You win the 3 point match 3-1 .\nYou are rated 1509.98 now (+9.98), experience 3.\n\
+         invite bob 3 plays another match; players ready lists others.\n",
+    ),
+    // if the server tells no rating, at once
+    (
+        &[Hears(BEGINS), Hears(WINS), Cue::Rests, Hears(RATED), Cue::Rests],
+        "You win the 3 point match 3-1 .\ninvite bob 3 plays another match; players ready lists others.\n",
+    ),
+    // a text that says no score
+    (&[Hears(BEGINS), Hears(b"You win the match .\r\n"), Cue::Rests], "You win the match .\n"),
+    (
+        &[Hears(BEGINS), Hears(b"You win the 3 point match .\r\n"), Cue::Rests],
+        "You win the 3 point match .\nAnother match: players ready lists those who can be invited.\n",
+    ),
+    // the user is invited, or the connection is another one
+    (
+        &[
+            Hears(WELCOME),
+            Hears(SETTINGS),
+            Hears(BEGINS),
+            Hears(WINS),
+            Hears(b"bob wants to play a 3 point match with you.\r\n"),
+            Cue::Rests,
+        ],
+        "You win the 3 point match 3-1 .\nbob wants to play a 3 point match with you.\nYou are invited: join bob\n",
+    ),
+    (
+        &[Hears(BEGINS), Hears(WINS), Cue::Loses, Cue::Opens, Cue::Rests],
+        "You win the 3 point match 3-1 .\nlost: open connects again, quit ends\nconnected to fibs.com:4321\n",
+    ),
+];
+
+#[test]
+fn how_another_match_is_played_is_said_once_after_one() {
+    for (steps, wanted) in &NEXTS {
+        let text = shown(plain_settings(), &[], steps);
+        let said = text.find("You win the").map_or("", |at| &text[at..]);
+        assert_wanted(said == *wanted, &text, wanted);
+    }
+    // of others nothing is said
+    let text = shown(plain_settings(), &[Hears(FIRST)], &[Hears(b"carl wins the 3 point match 3-2 .\r\n"), Cue::Rests]);
+    assert!(!text.contains("another match"), "{text}");
+}
+
+#[test]
+fn the_line_that_invites_to_another_match_is_whole_in_a_row() {
+    let begins = format!("** Player {LONG} has joined you for a 9998 point match.\r\n");
+    let ends = "You win the 9998 point match 9998-1 .\r\n";
+    let text = shown(plain_settings(), &[], &[Hears(begins.as_bytes()), Hears(ends.as_bytes()), Cue::Rests]);
+    let rows = format!("\ninvite {LONG} 9998\nplays another match; players ready lists others.\n");
+    assert_wanted(text.ends_with(&rows), &text, &rows);
+    assert!(text.lines().all(|row| row.len() <= 79), "{text}");
+}
+
 /// A folder of this name that is not there.
 fn folder(name: &str) -> PathBuf {
     let folder = std::env::temp_dir().join(format!("fibs-record-{}-{name}", std::process::id()));

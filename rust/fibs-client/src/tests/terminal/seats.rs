@@ -13,6 +13,7 @@ use crate::fibs_position::{GameBoard, Numbers};
 use crate::fibs_session::typed::typing::{Typed, read_typed};
 use crate::fibs_session::{Client, Directory, Login, Taken};
 use crate::fibs_terminal::Terminal;
+use crate::fibs_terminal::FixLine;
 use crate::fibs_wording::environment::{RecordFile, Settings, Zone};
 use crate::rattle::HostRuntime;
 use crate::rattle::io;
@@ -267,6 +268,19 @@ pub fn due_by<C: Clock>(clock: C, steps: &[Cue<'_>]) -> Option<Duration> {
     terminal.reconnect_by(&due);
     TestSeat::new().take_steps(steps, &mut terminal).expect("it is shown");
     due.get()
+}
+
+/// Which line of `fix` is to be typed by the last of some steps.
+pub fn fixed(steps: &[Cue<'_>]) -> Option<FixLine> {
+    let typed = Cell::new(None);
+    let mut terminal = Terminal::new(Vec::new(), Stopped, plain_settings());
+    terminal.fix_by(&typed);
+    let mut seat = TestSeat::new();
+    let (last, before) = steps.split_last().expect("there is a step");
+    seat.take_steps(before, &mut terminal).expect("it is shown");
+    typed.set(None);
+    seat.take_step(*last, &mut terminal).expect("it is shown");
+    typed.get()
 }
 
 /// Whether the line that was typed last ends the program.
