@@ -50,7 +50,8 @@ ROWS = [(kind, re.compile(form), more) for kind, form, *more in [
     ('auto', r'The server plays for you: (fix) turns it off, and logs in again\.'),
     ('open', r'lost.*: (open) connects again, (quit) ends'),
     ('open', r'no connection to .*', 'open', 'quit'),
-    ('leave', r'You are in a match.*: (quit|bye) again leaves\.'),
+    # its last words go on in another row if the name is long
+    ('leave', r'You are in a match.*: (quit|bye)(?: again)?(?: leaves\.)?'),
     ('login', r'Not logged in: wrong name or password\? (quit), and begin again\.'),
     # what was said in place of `go on`, before the screen knew what a text says
     ('old', r'(?:.* )?or the server refused, (send .*); or (bye) and open\.'),
