@@ -6,5 +6,6 @@ pub mod DrawingLemmas
 pub mod SentLemmas
 pub mod TellingLemmas
 pub mod TryingLemmas
+pub mod GoingOnLemmas
 pub mod SendingLemmas
 pub mod LeavingLemmas

@@ -1,5 +1,5 @@
 -- The move that `go` sends is the one that `try` showed.
-use Rattle.std.proofs.Common.{◌≡◌, ◌≤◌, ◌++◌, ℕ, List, Option, Some, Result, Ok, Err, IfOk, true, false, length, map, append_assoc, codes, refl, sym, ap, ◌∙◌, inl, arith}
+use Rattle.std.proofs.Common.{◌≡◌, ◌≤◌, ◌++◌, ℕ, List, Option, Some, Result, Ok, Err, IfOk, true, false, length, append_assoc, codes, refl, sym, ap, ◌∙◌, inl, arith}
 use Rattle.std.proofs.lemmas.Bool.{false≢true}
 use Rattle.fibs_fields.specs.Board.{BoardFields}
 use Rattle.fibs_position.specs.DecisionValue.{IsDecision}
@@ -18,7 +18,7 @@ use Rattle.fibs_connect.specs.declared.wish.Wish.{Wish}
 use Rattle.fibs_connect.specs.declared.wish.Wish.TheVariants.{Say}
 use Rattle.fibs_advice.specs.Leads.{LeadsTo}
 use Rattle.fibs_advice.specs.Trials.{changes_of, tried, tried_on}
-use Rattle.fibs_wording.specs.Broken.{spaced}
+use Rattle.fibs_picture.specs.InWords.Rows.{rejoined}
 use Rattle.fibs_advice.specs.declared.trial.Trial.{Trial}
 use Rattle.fibs_terminal.specs.Trying.{DrawsTrial, IsCommandOf, IsTriedNow, SendsTried, ShowsTrial, TellsTrial, command_by, go_row, tried_command}
 
@@ -38,13 +38,13 @@ trial_drawn s x b before mid after leads drawn row =
 -- or what the move changes is told, and then how it is sent
 pub trial_told : (numbers : Numbers) (x : Trial) (before mid whole after : List ℕ)
     → (b : BoardFields) × LeadsTo (tried_on x) (tried x) b × (mid ≡ before ++ changes_of numbers x b)
-    → whole ≡ mid ++ go_row (command_by numbers x) → map spaced after ≡ map spaced whole
+    → whole ≡ mid ++ go_row (command_by numbers x) → rejoined after ≡ rejoined whole
     → TellsTrial numbers x before after
 trial_told numbers x before mid whole after told row broken = (
   told.0,
   told.1,
   broken
-      ∙ ap (map spaced)
+      ∙ ap rejoined
       (joined before mid whole (changes_of numbers x told.0) (go_row (command_by numbers x)) told.2 row),
 )
 

@@ -1,5 +1,5 @@
 -- A move that the user looks at before it is sent: what `try` shows of it, what `go` sends (the project's own).
-use Rattle.std.specs.Prelude.{◌≡◌, ◌≢◌, ◌⊎◌, ◌++◌, ℕ, List, [], codes, length, map, nat_lt, true, false, Option, Some, None, IfSome, Result, IfOk}
+use Rattle.std.specs.Prelude.{◌≡◌, ◌≢◌, ◌⊎◌, ◌++◌, ℕ, List, [], codes, length, nat_lt, true, false, Option, Some, None, IfSome, Result, IfOk}
 use Rattle.std.specs.Io.KnownBytes.{Appends}
 use Rattle.fibs_fields.specs.Board.{BoardFields}
 use Rattle.fibs_position.specs.DirectionOf.{direction_of}
@@ -12,7 +12,7 @@ use Rattle.fibs_session.specs.Typing.{is_command, typed_by, typed_decision, type
 use Rattle.fibs_fields.specs.Split.{before}
 use Rattle.fibs_connect.specs.Wishes.{typed_limit}
 use Rattle.fibs_wording.specs.declared.environment.settings.Settings.{Settings}
-use Rattle.fibs_wording.specs.Broken.{spaced}
+use Rattle.fibs_picture.specs.InWords.Rows.{rejoined}
 use Rattle.fibs_terminal.specs.Drawings.{Draws, is_plain}
 use Rattle.fibs_connect.specs.declared.wish.Wish.{Wish}
 use Rattle.fibs_connect.specs.declared.wish.Wish.TheVariants.{Say, Answered}
@@ -37,10 +37,11 @@ abbrev pub DrawsTrial : Settings → Trial → List ℕ → List ℕ → Type 0
 DrawsTrial s x before after = (b : BoardFields) × LeadsTo (tried_on x) (tried x) b × ((picture : List ℕ)
     × Draws s false (is_plain s) b picture × (after ≡ before ++ (picture ++ go_row (command_by s.numbers x))))
 
--- or in words: what the move changes on the way to that board, and how it is sent. Line ends may stand for spaces
+-- or in words: what the move changes on the way to that board, and how it is sent, if what goes on of a row is joined
+-- to it again
 abbrev pub TellsTrial : Numbers → Trial → List ℕ → List ℕ → Type 0
 TellsTrial numbers x before after = (b : BoardFields) × LeadsTo (tried_on x) (tried x) b
-    × (map spaced after ≡ map spaced (before ++ (changes_of numbers x b ++ go_row (command_by numbers x))))
+    × (rejoined after ≡ rejoined (before ++ (changes_of numbers x b ++ go_row (command_by numbers x))))
 
 -- the board is drawn, or what changes is told, if the user has asked for words
 pub record ShowsTrial (s : Settings) (x : Trial) (before : List ℕ) (after : List ℕ) : Type 0 where

@@ -8,6 +8,7 @@ mod company;
 mod configuring;
 pub mod drawing;
 mod fixing;
+mod going_on;
 mod leaving;
 mod listening;
 mod looking;

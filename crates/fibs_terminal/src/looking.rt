@@ -13,6 +13,7 @@ ghost use Rattle.fibs_terminal.specs.Trying.{DrawsTrial, IsTriedNow, SendsTried,
 
 use crate::commands::{say_no_game, set_line};
 use crate::drawing::append_picture;
+use crate::going_on::go_on_with_spaces;
 use fibs_advice::plays::{Listing, Sheet, append_plays};
 use fibs_advice::trial::Trial;
 use fibs_commands::laws::read_command_is_exact;
@@ -21,7 +22,6 @@ use fibs_connect::wish::Wish;
 use fibs_position::{Decision, Numbers};
 use fibs_session::Client;
 use fibs_wording::environment::Page;
-use fibs_wording::environment::broken::break_at_spaces;
 use std::alloc::AllocError;
 
 /// What is said if `plays` is followed by no place.
@@ -80,7 +80,7 @@ fn append_told(trial: &Trial, page: &mut Page<'_>) -> Result<(), AllocError>
     let numbers = page.settings.numbers;
     trial.append_changes(alloc, numbers, &mut page.text)?;
     append_command(trial, numbers, &mut page.text)?;
-    break_at_spaces(start, page.columns(), &mut page.text);
+    go_on_with_spaces(start, page.columns(), &mut page.text)?;
     Ok(())
 }
 

@@ -3,6 +3,7 @@ ghost use Rattle.std.specs.Prelude.{◌≡◌, IfSome, IsSome, None, OnOk};
 ghost use Rattle.fibs_terminal.specs.Boxes.{IsEmptyList};
 
 use crate::account::Account;
+use crate::going_on::go_on_with_spaces;
 use crate::screen::Screen;
 use fibs_fields::name::Name;
 use fibs_fields::split::split;
@@ -10,7 +11,6 @@ use fibs_messages::WhoInfo;
 use fibs_position::Decision;
 use fibs_session::{Client, Directory, Refusal};
 use fibs_wording::environment::Page;
-use fibs_wording::environment::broken::break_at_spaces;
 use fibs_wording::environment::pieces::short_name;
 use fibs_wording::lists::append_count;
 use fibs_wording::messages::append_player;
@@ -261,7 +261,7 @@ pub(crate) fn say_players(
         &mut page.text,
     )?;
     if is_told {
-        break_at_spaces(start, page.columns(), &mut page.text);
+        go_on_with_spaces(start, page.columns(), &mut page.text)?;
     }
     Ok(())
 }
