@@ -17,6 +17,20 @@ impl<T> MaySort<T> for [T] {
     }
 }
 
+/// Elements between others.
+pub trait MayInsert<T> {
+    /// Puts an element before that which stands at a place, or at the end.
+    fn may_insert(&mut self, place: usize, element: T) -> Result<(), AllocError>;
+}
+
+impl<T> MayInsert<T> for Vec<T> {
+    fn may_insert(&mut self, place: usize, element: T) -> Result<(), AllocError> {
+        self.try_reserve(1).map_err(|_| AllocError)?;
+        self.insert(place, element);
+        Ok(())
+    }
+}
+
 /// Texts.
 pub trait MayString: Sized {
     /// A copy.

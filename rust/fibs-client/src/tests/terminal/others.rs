@@ -188,7 +188,7 @@ dave, rated 900, experience 12, plays eve, away, idle for 2 hours.\n\
             Cue::Hears(b"6\r\n"),
             Cue::Types(b"players"),
         ],
-        "\nbob, rated 1623, experience\n4012, ready.\n1 player.\n",
+        "\nbob, rated 1623, experience\n 4012, ready.\n1 player.\n",
     ),
 ];
 

@@ -105,10 +105,10 @@ fn a_move_that_is_tried_is_told_by_what_it_changes() {
         let start = [Cue::Hears(WELCOME), Cue::Hears(SETTINGS), Cue::Hears(board)];
         assert_ends(told, &start, &[Cue::Types(typed)], rows);
     }
-    // no row is wider than the terminal
+    // no row is wider than the terminal, and what goes on begins with a space
     let narrow = Settings { columns: 30, ..told };
     let start = [Cue::Hears(WELCOME), Cue::Hears(SETTINGS), Cue::Hears(BLOT)];
-    let rows = "After 24-18 8-6: 1 on 24, 1\non 18, 2 on 8, 6 on 6.\nYou hit bob on 18.\n";
+    let rows = "After 24-18 8-6: 1 on 24, 1\n on 18, 2 on 8, 6 on 6.\nYou hit bob on 18.\n";
     let text = shown(narrow, &start, &[Cue::Types(b"try 24/18 8/6")]);
     assert!(text.contains(rows), "{text}");
 }
