@@ -171,8 +171,8 @@ impl<'a> Screen<'a> {
                 self.memory.program.fixing.begin();
                 self.page.say(FIXES)
             }
-            Some(Refusal::Offline) => {
-                self.page.say_all(&[refusal_words(Refusal::Offline), b"\n"])
+            Some(why) if why == Refusal::Offline || why == Refusal::NotReady => {
+                self.page.say_all(&[refusal_words(why), b"\n"])
             }
             _ => self.page.say(NOTHING),
         }

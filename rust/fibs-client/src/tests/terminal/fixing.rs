@@ -71,4 +71,5 @@ fn who_begins_a_match_is_told_again() {
 fn nothing_is_fixed_that_is_right() {
     assert_ends(plain_settings(), &FIRST_BOARD, &[Types(b"fix")], "fix: the server plays nothing for you.\n");
     assert_ends(plain_settings(), &FIRST_BOARD, &[Cue::Loses, Types(b"fix")], "\nThere is no connection: type open.\n");
+    assert_ends(plain_settings(), &[], &[Types(b"fix")], "The server has not greeted you yet.\n");
 }
