@@ -1,3 +1,4 @@
--- How lists of places grow, and what a trial tells.
+-- How lists of places grow, what a trial tells, and how the steps that a line shows are read.
 mod PlacesLemmas
 mod TrialLemmas
+pub mod SpellingLemmas

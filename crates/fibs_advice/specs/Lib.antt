@@ -10,5 +10,7 @@ pub mod Passing
 pub mod Rows
 pub mod Sending
 pub mod Situations
+pub mod Spelling
+pub mod SpellingSteps
 pub mod Standings
 pub mod Trials

@@ -1,6 +1,6 @@
 -- A text by which the server tells a move, as `bob moves 12-15 15-18 .` (FIBS), and the same in the user's numbers; and
 -- a command that was sent, with its steps in those (the project's own).
-use Rattle.std.specs.Prelude.{◌++◌, ℕ, List, [], ◌∷◌, Option, Some, codes}
+use Rattle.std.specs.Prelude.{◌++◌, ℕ, List, [], ◌∷◌, Option, Some, None, codes}
 use Rattle.fibs_rules.specs.Hop.{Hop}
 use Rattle.fibs_position.specs.DecisionValue.{DecisionValue, move}
 use Rattle.fibs_position.specs.NumbersOf.{counted}
@@ -8,7 +8,7 @@ use Rattle.fibs_position.specs.declared.direction.Direction.{Direction}
 use Rattle.fibs_position.specs.declared.direction.Direction.TheVariants.{Down, Up}
 use Rattle.fibs_position.specs.declared.numbers.Numbers.{Numbers}
 use Rattle.fibs_commands.specs.CommandReading.{read_command}
-use Rattle.fibs_commands.specs.Commands.{steps_text}
+use Rattle.fibs_commands.specs.Commands.{command_of, steps_text}
 
 -- who moves, and each step, by numbers by which the user goes this way: a place is one place, whoever comes to it
 abbrev pub moved_text : Direction → List ℕ → List Hop → List ℕ
@@ -27,3 +27,12 @@ beside_in direction way d = []
 abbrev pub sent_text : Numbers → Direction → List ℕ → List ℕ
 sent_text numbers direction command =
     command ++ beside_in direction (counted numbers direction) (read_command direction command)
+
+-- the same in the user's numbers alone: a decision as he types it, any other line as it was sent
+abbrev pub spelled_in : Direction → List ℕ → Option DecisionValue → List ℕ
+spelled_in way line None = line
+spelled_in way line (Some d) = command_of way d
+
+abbrev pub sent_told : Numbers → Direction → List ℕ → List ℕ
+sent_told numbers direction command =
+    spelled_in (counted numbers direction) command (read_command direction command)

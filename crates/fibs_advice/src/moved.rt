@@ -3,7 +3,7 @@ ghost use Rattle.std.specs.Prelude.{◌≡◌, ◌++◌, IfOk, IfSome, OnOk, opt
 ghost use Rattle.fibs_position.specs.DecisionValue.{decision_of};
 ghost use Rattle.fibs_commands.specs.Commands.{steps_text};
 ghost use Rattle.fibs_rules.specs.PlayValue.{hops_of};
-ghost use Rattle.fibs_advice.specs.Moved.{beside_in, beside_text, moved_text, sent_text};
+ghost use Rattle.fibs_advice.specs.Moved.{beside_in, beside_text, moved_text, sent_text, sent_told};
 
 use crate::spelling::moves::typed_move;
 use fibs_commands::{decision_text, read_command};
@@ -175,4 +175,25 @@ pub fn append_sent(
     text.extend_from_slice(command)?;
     let decision = read_command(command, direction);
     append_own(direction, numbers.way(direction), decision, text)
+}
+
+/// Appends a command that was sent from a board on which the user goes this way, in the numbers that he reads alone: a
+/// decision as he may type it, any other line as it was sent.
+///
+/// Errors: if memory runs out.
+pub fn append_sent_told(
+    command: &[u8],
+    direction: Direction,
+    numbers: Numbers,
+    text: &mut Vec<u8>,
+) -> Result<(), AllocError>
+    ensures { OnOk result (text.new.items ≡ text.old.items ++ sent_told numbers direction command.now) }
+{
+    match read_command(command, direction) {
+        None => text.extend_from_slice(command),
+        Some(decision) => {
+            let spelled = decision_text(&decision, numbers.way(direction));
+            text.extend_from_slice(spelled.as_bytes())
+        }
+    }
 }

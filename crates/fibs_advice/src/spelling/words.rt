@@ -1,12 +1,20 @@
 //! Words as players type them: with spaces at both ends, in capitals, and a few short ones.
+ghost use Rattle.std.specs.Prelude.{◌≡◌, true, IfOk, IfSome, option_map};
+ghost use Rattle.fibs_position.specs.DecisionValue.{move};
+ghost use Rattle.fibs_rules.specs.PlayValue.{hops_of};
+ghost use Rattle.fibs_session.specs.History.Machine.{Talk};
+ghost use Rattle.fibs_session.specs.Calls.Standing.{StandsAfter};
+ghost use Rattle.fibs_session.specs.Typing.{way_now};
+ghost use Rattle.fibs_advice.specs.Offers.{is_taken};
+ghost use Rattle.fibs_advice.specs.Spelling.{IsMeantBy, IsReadAs, LeadsSame, steps_shown};
 
-use crate::offers::{direction, is_taken};
+use crate::offers::is_taken;
 use crate::spelling::moves::{only_meaning, typed_move};
 use bstr::ByteSlice;
 use fibs_commands::{CommandText, decision_text};
 use fibs_fields::split::split;
 use fibs_fields::trailing_spaces::without_spaces;
-use fibs_position::{Decision, Numbers, Play};
+use fibs_position::{Decision, Direction, Numbers, Play};
 use fibs_session::Client;
 use std::alloc::{AllocError, Global};
 
@@ -45,33 +53,72 @@ fn long_word(word: &[u8]) -> &[u8] {
     }
 }
 
-/// The legal move of the board shown that was typed, if only one can be meant.
-fn meant(alloc: Global, client: &Client, typed: &Play) -> Result<Play, AllocError> {
-    if is_taken(client, &Decision::Move(*typed)) {
-        return Ok(*typed);
-    }
+/// Which way the user goes by these numbers, on the board that is shown.
+pub fn way_now(client: &Client, numbers: Numbers) -> Direction
+    ensures { (t : Talk) → StandsAfter client.now t → result ≡ way_now numbers t }
+{
+    numbers.way(client.direction().unwrap_or(Direction::Down))
+}
+
+/// The legal move that the client takes now, and that was meant by one that was typed, if only one can be.
+fn other_meaning(alloc: Global, client: &Client, typed: &Play) -> Result<Option<Play>, AllocError>
+    ensures { IfOk result (λ found. IfSome found (λ play. LeadsSame (hops_of typed.now) (hops_of play)
+        × ((t : Talk) → StandsAfter client.now t → is_taken t (move (hops_of play)) ≡ true))) }
+{
     let Some(game) = client.game() else {
-        return Ok(*typed);
+        return Ok(None);
     };
     let plays = game.position().plays(alloc)?;
     match only_meaning(typed, plays.as_slice()) {
+        Some(play) if is_taken(client, &Decision::Move(play)) => Ok(Some(play)),
+        _ => Ok(None),
+    }
+}
+
+/// The move that was meant by one that was typed: that one, if the client takes it, or if no other can be meant.
+fn meant(alloc: Global, client: &Client, typed: &Play) -> Result<Play, AllocError>
+    ensures { IfOk result (λ play. (t : Talk) → StandsAfter client.now t
+        → IsMeantBy t (hops_of typed.now) (hops_of play)) }
+{
+    if is_taken(client, &Decision::Move(*typed)) {
+        return Ok(*typed);
+    }
+    match other_meaning(alloc, client, typed)? {
         Some(play) => Ok(play),
         None => Ok(*typed),
     }
 }
 
-/// The command of the move that the words say, if they say one, in the numbers in which they are.
+/// The move that a line shows, by the numbers that the user reads: just its steps, or, if the client does not take
+/// these, the only legal move after which the checkers stand the same.
+///
+/// Errors: if memory runs out.
+pub fn shown_move(
+    alloc: Global,
+    client: &Client,
+    numbers: Numbers,
+    line: &[u8],
+) -> Result<Option<Play>, AllocError>
+    ensures { IfOk result (λ read. (t : Talk) → StandsAfter client.now t
+        → IsReadAs t (steps_shown (way_now numbers t) line.now) (option_map hops_of read)) }
+{
+    match typed_move(line, way_now(client, numbers)) {
+        None => Ok(None),
+        Some(typed) => Ok(Some(meant(alloc, client, &typed)?)),
+    }
+}
+
+/// The command of the move that a line shows, if it shows one, in the numbers in which it does.
 fn move_command(
     alloc: Global,
     client: &Client,
     numbers: Numbers,
-    words: &[u8],
+    line: &[u8],
 ) -> Result<Option<CommandText>, AllocError> {
-    let way = numbers.way(direction(client));
-    match typed_move(words, way) {
+    match shown_move(alloc, client, numbers, line)? {
         None => Ok(None),
-        Some(typed) => {
-            let play = meant(alloc, client, &typed)?;
+        Some(play) => {
+            let way = way_now(client, numbers);
             Ok(Some(decision_text(&Decision::Move(play), way)))
         }
     }
@@ -87,17 +134,6 @@ fn append_word(word: &[u8], rest: Option<&[u8]>, text: &mut Vec<u8>) -> Result<(
     Ok(())
 }
 
-/// Where the steps of a move would be: after `move`, or in the whole line.
-fn move_words<'a>(word: &[u8], rest: Option<&'a [u8]>, line: &'a [u8]) -> &'a [u8] {
-    if word != b"move".as_slice() {
-        return line;
-    }
-    match rest {
-        Some(rest) => rest,
-        None => b"",
-    }
-}
-
 /// Appends a line of small letters, with a long word for a short one, or the move that it says.
 fn append_meaning(
     alloc: Global,
@@ -107,10 +143,9 @@ fn append_meaning(
     text: &mut Vec<u8>,
 ) -> Result<(), AllocError> {
     let (word, rest) = split(line, b' ');
-    let word = long_word(word);
-    match move_command(alloc, client, numbers, move_words(word, rest, line))? {
+    match move_command(alloc, client, numbers, line)? {
         Some(command) => text.extend_from_slice(command.as_bytes()),
-        None => append_word(word, rest, text),
+        None => append_word(long_word(word), rest, text),
     }
 }
 
