@@ -1,9 +1,10 @@
 -- Why the first line that takes leave of a match is only answered, and what it is answered breaks no other promise.
-use Rattle.std.proofs.Common.{◌≡◌, ◌⊎◌, ◌&&◌, ℕ, suc, Bool, not, true, false, nat_lt, List, [], ◌∷◌, length, Option, Some, None, cond, codes, arith, refl, sym, ap, ◌∙◌, inl, inr}
+use Rattle.std.proofs.Common.{◌≡◌, ◌⊎◌, ◌&&◌, ℕ, suc, Bool, not, true, false, nat_lt, List, [], ◌∷◌, length, Option, Some, None, Result, Ok, cond, codes, arith, refl, sym, ap, ◌∙◌, inl, inr}
 use Rattle.std.specs.Str.{bytes_eq}
 use Rattle.std.proofs.lemmas.Bool.{false≢true}
 use Rattle.std.proofs.lemmas.Slice.Eq.{bytes_eq-Decides}
-use Rattle.fibs_position.specs.DecisionValue.{DecisionValue}
+use Rattle.fibs_rules.specs.Hop.{Hop}
+use Rattle.fibs_position.specs.DecisionValue.{DecisionValue, move}
 use Rattle.fibs_position.specs.declared.direction.Direction.{Direction}
 use Rattle.fibs_position.specs.declared.numbers.Numbers.{Numbers}
 use Rattle.fibs_commands.specs.CommandReading.{read_command, decision_in, turn_in}
@@ -18,7 +19,7 @@ use Rattle.fibs_connect.specs.declared.wish.Wish.TheVariants as W
 use Rattle.fibs_advice.specs.Trials.{tried}
 use Rattle.fibs_advice.specs.declared.standing.Standing.{Standing}
 use Rattle.fibs_advice.specs.declared.trial.Trial.{Trial}
-use Rattle.fibs_terminal.specs.Asking.{AsksInBounds, GoesOnAs, GoesOut}
+use Rattle.fibs_terminal.specs.Asking.{AsksInBounds, GoesOnAs, GoesOut, ShownGoesOn, TakesPlay}
 use Rattle.fibs_terminal.specs.Leaving.{asked_first, is_again, leave_of}
 use Rattle.fibs_terminal.specs.Sending.{DecidesIf}
 use Rattle.fibs_terminal.specs.Trying.{SendsTried}
@@ -162,6 +163,22 @@ pub went_asked : (client : ClientValue) (kept : Option Trial) (before after : Li
     → before ≡ codes "go" → (t : Talk) → StandsAfter client t → SendsTried t kept W.Answered after
 went_asked client kept before after wish word leaves sends go t stands =
     absurd (go_stays t kept after wish word leaves (sends go t stands))
+
+-- nor by the command of a play that a line shows
+play_stays : (t : Talk) (standing : Standing) (play : List Hop) (line : List ℕ) (wish : Wish) (word : Leave)
+    → Leaves wish line word → TakesPlay t standing play line wish → ⊥
+play_stays t standing play line wish word (inl q) takes =
+    decides_no_end t standing (Some (move play)) wish takes.decides q.0
+play_stays t standing play line wish word (inr b) takes = bye_decides t (move play) line b.1 takes.reads
+
+-- so nothing is to be shown of that
+pub shown_asked : (client : ClientValue) (numbers : Numbers) (standing : Standing) (before after : List ℕ)
+    (wish : Wish) (word : Leave) → Leaves wish after word
+    → ShownGoesOn {E = Unit {0}} client numbers standing before after (Ok wish)
+    → ShownGoesOn {E = Unit {0}} client numbers standing before after (Ok W.Answered)
+shown_asked client numbers standing before after wish word leaves goes t stands short unknown steps shown =
+    let it = goes t stands short unknown steps shown in
+    absurd (play_stays t standing it.0 after wish word leaves it.2)
 
 -- `quit` is no command, by whatever numbers
 quit_is_none : (way : Direction) → is_command (typed_in way (codes "quit")) ≡ false

@@ -9,3 +9,4 @@ pub mod TryingLemmas
 pub mod GoingOnLemmas
 pub mod SendingLemmas
 pub mod LeavingLemmas
+pub mod ShownLemmas

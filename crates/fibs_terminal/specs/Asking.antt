@@ -1,14 +1,17 @@
 -- What a typed line asks for (the project's own).
-use Rattle.std.specs.Prelude.{◌≡◌, ◌++◌, ◌⊎◌, true, false, ℕ, nat_lt, length, List, [], codes, None, Result, IfOk}
+use Rattle.std.specs.Prelude.{◌≡◌, ◌++◌, ◌⊎◌, true, false, ℕ, nat_lt, length, List, [], codes, Some, None, Result, IfOk}
+use Rattle.fibs_rules.specs.Hop.{Hop}
+use Rattle.fibs_position.specs.DecisionValue.{move}
 use Rattle.fibs_position.specs.declared.numbers.Numbers.{Numbers}
 use Rattle.fibs_session.specs.History.Machine.{Talk}
 use Rattle.fibs_session.specs.Calls.Standing.{ClientValue, StandsAfter}
-use Rattle.fibs_session.specs.Typing.{decided, typed_by, typed_now, is_command, would_take}
+use Rattle.fibs_session.specs.Typing.{decided, typed_by, typed_decision, typed_now, is_command, way_now, would_take}
 use Rattle.fibs_connect.specs.Wishes.{WishValue, takes_turn, is_too_long, typed_limit}
 use Rattle.fibs_connect.specs.declared.wish.Wish.{Wish}
 use Rattle.fibs_connect.specs.declared.wish.Wish.TheVariants.{Send}
 use Rattle.fibs_advice.specs.declared.standing.Standing.{Standing}
-use Rattle.fibs_terminal.specs.Sending.{DecidesIf}
+use Rattle.fibs_advice.specs.Spelling.{IsMeantBy, steps_shown}
+use Rattle.fibs_terminal.specs.Sending.{Decides, DecidesIf}
 use Rattle.fibs_terminal.specs.Talking.{GoesAsTyped}
 
 -- an empty line asks to hear the server; a line that is too long is reported as such
@@ -46,6 +49,20 @@ abbrev pub KnownGoesOn : {E : Type 0} → ClientValue → Numbers → Standing �
 KnownGoesOn client numbers standing before after result = IfOk result (λ wish. (t : Talk) → StandsAfter client t
     → is_command (typed_by numbers t before) ≡ true
     → GoesOnAs numbers t standing before after wish ⊎ GoesOut t before after wish)
+
+-- a play is taken: by the direction of the board that is shown the client reads it in the line that goes on, and
+-- answers it; or it goes out as a decision for which the server has asked
+pub record TakesPlay (t : Talk) (standing : Standing) (play : List Hop) (after : List ℕ) (wish : Wish) : Type 0 where
+  pub reads : typed_now t after ≡ typed_decision (move play)
+  pub decides : Decides t standing (move play) wish
+
+-- so goes each other line that shows steps by the numbers that the user reads, in whatever spelling: it is taken as the
+-- play that is meant by them
+abbrev pub ShownGoesOn : {E : Type 0} → ClientValue → Numbers → Standing → List ℕ → List ℕ → Result Wish E → Type 0
+ShownGoesOn client numbers standing before after result = IfOk result (λ wish. (t : Talk) → StandsAfter client t
+    → nat_lt typed_limit (length before) ≡ false → is_command (typed_by numbers t before) ≡ false
+    → (steps : List Hop) → steps_shown (way_now numbers t) before ≡ Some steps
+    → (play : List Hop) × IsMeantBy t steps play × TakesPlay t standing play after wish)
 
 -- what `re` tells to who spoke last, by his whole name
 abbrev pub tell_line : List ℕ → List ℕ → List ℕ

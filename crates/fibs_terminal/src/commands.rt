@@ -3,8 +3,10 @@ ghost use Rattle.std.specs.Prelude.{◌≡◌, ◌≤◌, length, codes, true, f
 ghost use Rattle.fibs_connect.specs.Wishes.{wish_value};
 ghost use Rattle.fibs_session.specs.Calls.Standing.{StandsAfter};
 ghost use Rattle.fibs_session.specs.History.Machine.{Talk};
-ghost use Rattle.fibs_session.specs.Typing.{IsMeant, decided, is_command, typed_by, typed_now};
-ghost use Rattle.fibs_terminal.specs.Asking.{AsksInBounds, IsTakenAs, IsTakenOrGoes, KnownGoesOn, SendsUntaken};
+ghost use Rattle.fibs_session.specs.Typing.{IsMeant, decided, is_command, typed_by, typed_decision, typed_now};
+ghost use Rattle.fibs_position.specs.DecisionValue.{move};
+ghost use Rattle.fibs_rules.specs.PlayValue.{hops_of};
+ghost use Rattle.fibs_terminal.specs.Asking.{AsksInBounds, IsTakenAs, IsTakenOrGoes, KnownGoesOn, SendsUntaken, ShownGoesOn, TakesPlay};
 ghost use Rattle.fibs_terminal.specs.Leaving.{NeverQuits, Quits, QuitsBy};
 ghost use Rattle.fibs_terminal.specs.Sending.{SendsNoDecision, SendsOnWord, WentOnWord, says_send};
 ghost use Rattle.fibs_fields.specs.Split.{before};
@@ -20,17 +22,19 @@ use crate::telling::UNKNOWN;
 use bstr::ByteSlice;
 use fibs_advice::passing::Passing;
 use fibs_advice::rules::append_rule;
-use fibs_advice::spelling::words::{append_small_word, append_spelled};
+use fibs_advice::spelling::words::{append_small_word, append_spelled, shown_move, way_now};
 use fibs_connect::typed_line::{TYPED_LIMIT, TypedLine};
 use fibs_connect::wish::Wish;
 use fibs_fields::split::split;
 use fibs_fields::trailing_spaces::without_spaces;
 use fibs_picture::in_words::{Fact, Told, append_row};
-use fibs_position::{Decision, Numbers};
+use fibs_position::laws::decisions_are_valid;
+use fibs_position::{Decision, Numbers, Play};
+use fibs_session::laws::shown_is_read;
 use fibs_session::typed::meant::{is_command_by, meant_command, read_typed_by};
 use fibs_session::typed::taking::would_take;
 use fibs_session::typed::typing::Typed;
-use fibs_session::{Client, Directory, Refusal};
+use fibs_session::{Client, Directory, Refusal, decision_text};
 use fibs_wording::environment::pieces::append_all;
 use fibs_wording::environment::shown::append_shown;
 use fibs_wording::environment::{Page, read_numbers};
@@ -164,6 +168,18 @@ fn set_meant(client: &Client, numbers: Numbers, line: &mut TypedLine)
         None => {}
         Some(command) => set_line(line, command.as_str().as_bytes()),
     }
+}
+
+/// Has in a line the command of a move, by the numbers that the user reads.
+fn set_shown(client: &Client, numbers: Numbers, play: &Play, line: &mut TypedLine)
+    ensures { (t : Talk) → StandsAfter client.now t →
+        typed_by numbers t line.new.items ≡ typed_decision (move (hops_of play.now)) }
+{
+    // Laws, which cost nothing when they run.
+    shown_is_read();
+    decisions_are_valid();
+    let command = decision_text(&Decision::Move(*play), way_now(client, numbers));
+    set_line(line, command.as_str().as_bytes());
 }
 
 /// Respells a line, if it then is a command by these numbers, or if it then begins with a word of the terminal.
@@ -398,6 +414,8 @@ impl<'a> Screen<'a> {
         ensures asks { IfOk result (λ wish. AsksInBounds line.old.items (wish_value wish line.new.items)) }
         ensures known { KnownGoesOn client.now self.old.page.settings.numbers self.old.memory.here.situation.standing
             line.old.items line.new.items result }
+        ensures shows { ShownGoesOn client.now self.old.page.settings.numbers self.old.memory.here.situation.standing
+            line.old.items line.new.items result }
         ensures word { SendsOnWord client.now self.old.memory.here.situation.standing line.old.items line.new.items
             result }
         ensures sent { SendsUntaken client.now line.new.items result }
@@ -423,7 +441,28 @@ impl<'a> Screen<'a> {
         if is_command_by(client, numbers, line.as_slice()) {
             return self.wish_known(client, line);
         }
+        if let Some(play) = shown_move(alloc, client, numbers, line.as_slice())? {
+            return self.wish_shown(client, &play, line);
+        }
         self.wish_unknown(client, directory, line)
+    }
+
+    /// What a move asks for that a line shows in another spelling: that of its command does.
+    fn wish_shown(
+        &mut self,
+        client: &Client,
+        play: &Play,
+        line: &mut TypedLine,
+    ) -> Result<Wish, AllocError>
+        ensures takes { IfOk result (λ wish. (t : Talk) → StandsAfter client.now t →
+            TakesPlay t self.old.memory.here.situation.standing (hops_of play.now) line.new.items wish) }
+        ensures word { WentOnWord client.now self.old.memory.here.situation.standing line.new.items result }
+        ensures sent { SendsUntaken client.now line.new.items result }
+        ensures looking { self.new.memory.here.looking ≡ self.old.memory.here.looking }
+        ensures quits { NeverQuits result }
+    {
+        set_shown(client, self.page.settings.numbers, play, line);
+        self.wish_command(client, line)
     }
 
     /// What a command asks for: talk may go to the server as it was typed.

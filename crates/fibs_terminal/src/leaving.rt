@@ -3,7 +3,7 @@ ghost use Rattle.std.specs.Prelude.{◌≡◌, IfOk, OnOk};
 ghost use Rattle.fibs_fields.specs.StoredBoard.{fields_of};
 ghost use Rattle.fibs_advice.specs.Situations.{is_match_over, is_won};
 ghost use Rattle.fibs_connect.specs.Wishes.{wish_value};
-ghost use Rattle.fibs_terminal.specs.Asking.{AsksInBounds, SendsUntaken};
+ghost use Rattle.fibs_terminal.specs.Asking.{AsksInBounds, SendsUntaken, ShownGoesOn};
 ghost use Rattle.fibs_terminal.specs.Leaving.{KnownGoesOnOrAsks, QuitsOrAsks, TakesLeave, asked_first, is_again, is_match_on, leave_of, leave_word};
 ghost use Rattle.fibs_terminal.specs.Sending.{SendsOnWord};
 ghost use Rattle.fibs_terminal.specs.Trying.{GoesOn, ShowsTry, TriesOrKeeps};
@@ -138,6 +138,8 @@ impl<'a> Screen<'a> {
         ensures known { KnownGoesOnOrAsks client.now self.old.page.settings.numbers
             self.old.memory.here.situation.standing self.new.memory.here.table.leave line.old.items line.new.items
             result }
+        ensures shows { ShownGoesOn client.now self.old.page.settings.numbers self.old.memory.here.situation.standing
+            line.old.items line.new.items result }
         ensures word { SendsOnWord client.now self.old.memory.here.situation.standing line.old.items line.new.items
             result }
         ensures sent { SendsUntaken client.now line.new.items result }

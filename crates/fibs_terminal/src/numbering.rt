@@ -1,7 +1,9 @@
 //! What the server says and hears in its numbers, as the user reads it in his.
 
 use crate::screen::Screen;
-use fibs_advice::moved::{append_moved, append_sent, has_step, names_steps, read_moved};
+use fibs_advice::moved::{
+    append_moved, append_sent, append_sent_told, has_step, names_steps, read_moved,
+};
 use fibs_advice::situation::is_same;
 use fibs_fields::split::split;
 use fibs_fields::trailing_spaces::without_spaces;
@@ -40,7 +42,7 @@ impl<'a> Screen<'a> {
     }
 
     /// Says between these words a command that was sent: of a move also its steps in the numbers that the user reads,
-    /// if those are others.
+    /// if those are others, or, if the least is told in words, in those alone.
     pub(crate) fn say_sent(
         &mut self,
         before: &[u8],
@@ -51,7 +53,11 @@ impl<'a> Screen<'a> {
         let numbers = self.page.settings.numbers;
         let alloc = self.page.alloc;
         let mut sent = Vec::new(alloc);
-        append_sent(command, direction, numbers, &mut sent)?;
+        if self.page.settings.words && self.page.settings.is_short {
+            append_sent_told(command, direction, numbers, &mut sent)?;
+        } else {
+            append_sent(command, direction, numbers, &mut sent)?;
+        }
         let start = self.page.text.len();
         self.page.say_all(&[before, sent.as_slice(), after])?;
         if sent.len() == command.len() {

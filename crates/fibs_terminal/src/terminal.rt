@@ -4,7 +4,7 @@ ghost use Rattle.std.specs.Prelude.{◌≡◌, ◌++◌, OnOk, IfOk, List, ℕ};
 ghost use Rattle.std.specs.Io.KnownBytes.{Appends};
 ghost use Rattle.fibs_connect.specs.Wishes.{wish_value};
 ghost use Rattle.fibs_terminal.specs.Above.{given_back};
-ghost use Rattle.fibs_terminal.specs.Asking.{AsksInBounds, SendsUntaken};
+ghost use Rattle.fibs_terminal.specs.Asking.{AsksInBounds, SendsUntaken, ShownGoesOn};
 ghost use Rattle.fibs_terminal.specs.Grown.{Grown};
 ghost use Rattle.fibs_terminal.specs.Leaving.{KnownGoesOnOrAsks, QuitsOrAsks, TakesLeave, is_match_on};
 ghost use Rattle.fibs_terminal.specs.Resting.{ShowsAdvice};
@@ -165,6 +165,11 @@ impl<W: Write + Drop, C: Clock + Drop> Words for Terminal<'_, W, C> {
         ensures known { KnownGoesOnOrAsks client.now self.old.screen.page.settings.numbers
             self.old.screen.memory.here.situation.standing self.new.screen.memory.here.table.leave
             line.old.items line.new.items result }
+        // A line that shows a move in any other spelling is taken as the play that is meant by the steps that it shows, by
+        // the numbers that the user reads: what goes on is a command which the client reads as that play by the
+        // server's direction.
+        ensures shows { ShownGoesOn client.now self.old.screen.page.settings.numbers
+            self.old.screen.memory.here.situation.standing line.old.items line.new.items result }
         // In a match neither the program ends nor `bye` goes out, unless the line before was the same word and has
         // asked about it. Any other line forgets what was asked, and the second one in a row is not asked about again.
         ensures leave { IfOk result (λ wish. TakesLeave (is_match_on self.old.screen.memory)
