@@ -200,6 +200,7 @@ def by_what_is_new():
     for short in False, True:
         listener = match_by_ear(seed=5, short=short, first='words short' if short else None)
         counts.append(sum(len(row.split()) for row in listener.rows) / len(listener.told))
+        same('a move is told in both numbers', any(' (in your numbers ' in row for row in listener.rows), not short)
     same('fewer words a board', counts[1] < counts[0], True)
 
 

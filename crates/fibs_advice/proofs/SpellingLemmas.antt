@@ -1,6 +1,6 @@
 -- How the steps that a line shows are read, one after the other.
 use Rattle.std.proofs.Common.{◌≡◌, ◌≢◌, ◌<◌, ◌≤◌, ◌+◌, ℕ, suc, Bool, true, false, cond, nat_le, nat_lt, true≢false, List, map, ◌==◌, [], ◌∷◌, ◌++◌, length, replicate, Option, Some, None, refl, sym, ap, subst, ◌∙◌, ◌&&◌, ◌-◌, arith, append_assoc, append-nil, length-append, inl, inr}
-use Rattle.std.specs.List.{slice_split, onto_first}
+use Rattle.std.specs.List.{onto_first}
 use Rattle.std.proofs.lemmas.Bool.{cases_eq, eq-eqb, ne_eqb}
 use Rattle.std.proofs.lemmas.Bool.Decides.{nat_tests}
 use Rattle.fibs_fields.specs.Split.{before, after}
@@ -56,6 +56,7 @@ joined_some played a os b bs = go (nat_le (length played + length (a ∷ os)) 4)
         grind (arith, nat_tests, length-append (a ∷ os) (b ∷ bs)) in
         ap (λ few. cond few (Some (played ++ ((a ∷ os) ++ (b ∷ bs)))) None) over
 
+-- so are all that are joined
 pub onto_joined : (played : List Hop) (steps later : Option (List Hop))
     → onto played (joined steps later) ≡ then_onto (onto played steps) later
 unfolding onto
@@ -195,8 +196,7 @@ names_more way times source cut target text name rest played later all step firs
 pub rest_shorter : (c : ℕ) (text rest : List ℕ) → after c text ≡ Some rest → length rest < length text
 rest_shorter c text rest is = omega (arith, ap left_len is, after_shorter c text)
 
--- a word
-
+-- a word that says nothing adds nothing
 pub filler_plays : (way : Direction) (word : List ℕ) (played : List Hop) → true ≡ is_filler word
     → Some played ≡ onto played (steps_of_word way word)
 unfolding onto steps_of_word
@@ -209,11 +209,13 @@ word_names : (way : Direction) (word names : List ℕ) (cut : ℕ) (times : Opti
 unfolding steps_of_word
 word_names way word names cut times other same by count = rw (sym other, count, by, same) refl
 
+-- it shows none if `(2)` says no times
 pub word_unread : (way : Direction) (word : List ℕ) (played : List Hop) → false ≡ is_filler word
     → None ≡ times_in (after 40 word) → onto played (steps_of_word way word) ≡ None
 unfolding onto steps_of_word
 word_unread way word played other none = rw (sym other, sym none) refl
 
+-- nor if it names one place alone
 pub word_alone : (way : Direction) (word names : List ℕ) (cut times : ℕ) (played : List Hop) → false ≡ is_filler word
     → names ≡ before 40 word → cut ≡ cut_of names → Some times ≡ times_in (after 40 word) → after cut names ≡ None
     → onto played (steps_of_word way word) ≡ None
@@ -236,6 +238,7 @@ word_along way word names first rest cut times other same by count begins more =
     ∙ ap (λ n. along way times (place_typed way n) (before cut rest ∷ between_after cut (after cut rest))) (sym begins)
     ∙ ap (along way times (place_typed way first)) (sym (parts_of cut rest))
 
+-- nor if the first name is that of no place
 pub word_nowhere : (way : Direction) (word names first rest : List ℕ) (cut times : ℕ) (played : List Hop)
     → false ≡ is_filler word → names ≡ before 40 word → cut ≡ cut_of names → Some times ≡ times_in (after 40 word)
     → first ≡ before cut names → after cut names ≡ Some rest → None ≡ place_typed way first
@@ -246,6 +249,7 @@ word_nowhere way word names first rest cut times played other same by count begi
     ∙ ap (λ place. along way times place (between cut rest)) (sym none)
     ∙ ap (along way times None) (parts_of cut rest))
 
+-- else it shows the steps along its names
 pub word_goes : (way : Direction) (word names first rest : List ℕ) (cut times source : ℕ) (played : List Hop)
     (all : Option (List Hop)) → false ≡ is_filler word → names ≡ before 40 word → cut ≡ cut_of names
     → Some times ≡ times_in (after 40 word) → first ≡ before cut names → after cut names ≡ Some rest
@@ -256,8 +260,7 @@ word_goes way word names first rest cut times source played all other same by co
     is ∙ ap (λ place. onto played (along way times place (between cut rest))) some
     ∙ ap (onto played) (sym (word_along way word names first rest cut times other same by count begins more))
 
--- words, one after the other
-
+-- after the steps of a word come those of the other words
 words_go_on : (way : Direction) (text word : List ℕ) (played : List Hop) → word ≡ before 32 text
     → onto played (steps_of_words way (between 32 text)) ≡ then_onto (onto played (steps_of_word way word))
     (steps_of_words way (between_after 32 (after 32 text)))
@@ -266,11 +269,13 @@ words_go_on way text word played first =
     ∙ ap (λ w. onto played (steps_of_words way (w ∷ between_after 32 (after 32 text)))) (sym first)
     ∙ onto_joined played (steps_of_word way word) (steps_of_words way (between_after 32 (after 32 text)))
 
+-- a word that is not read ends it
 pub words_stop : (way : Direction) (text word : List ℕ) (played : List Hop) → word ≡ before 32 text
     → None ≡ onto played (steps_of_word way word) → onto played (steps_of_words way (between 32 text)) ≡ None
 words_stop way text word played first none = words_go_on way text word played first
     ∙ ap (λ o. then_onto o (steps_of_words way (between_after 32 (after 32 text)))) (sym none)
 
+-- the last word
 pub words_end : (way : Direction) (text word : List ℕ) (played later : List Hop) → word ≡ before 32 text
     → after 32 text ≡ None → Some later ≡ onto played (steps_of_word way word)
     → Some later ≡ onto played (steps_of_words way (between 32 text))
@@ -279,6 +284,7 @@ words_end way text word played later first none some = sym (words_go_on way text
     ∙ ap (λ o. then_onto o (steps_of_words way (between_after 32 (after 32 text)))) (sym some)
     ∙ ap (λ o. onto later (steps_of_words way (between_after 32 o))) none)
 
+-- a word before others
 pub words_more : (way : Direction) (text word rest : List ℕ) (played later : List Hop) (all : Option (List Hop))
     → word ≡ before 32 text → after 32 text ≡ Some rest → Some later ≡ onto played (steps_of_word way word)
     → all ≡ onto later (steps_of_words way (between 32 rest))
@@ -288,8 +294,7 @@ words_more way text word rest played later all first more some is =
     ∙ sym (words_go_on way text word played first
     ∙ ap (λ o. then_onto o (steps_of_words way (between_after 32 (after 32 text)))) (sym some))
 
--- a line, before whose words `move` may stand
-
+-- the words of a line are the first one and the others
 line_of : (way : Direction) (text word : List ℕ) → word ≡ before 32 text
     → steps_of_line way (between 32 text) ≡ steps_of_line way (word ∷ between_after 32 (after 32 text))
 line_of way text word first = ap (steps_of_line way) (parts_of 32 text)
@@ -369,17 +374,20 @@ pub with_steps : (steps : List Step) (hops : List Hop) → map hop_of steps ≡ 
 with_steps [] hops same some = absurd (true≢false (sym (some ∙ eq-eqb 0 0 refl)))
 with_steps (step ∷ steps) hops same some = subst (λ h. 0 < length h) same (omega arith)
 
+-- a line of which no steps are read shows none
 pub none_typed : (way : Direction) (text : List ℕ) → None ≡ onto [] (steps_of_line way (between 32 text))
     → steps_shown way text ≡ None
 unfolding steps_shown
 none_typed way text none = few_onto (steps_of_line way (between 32 text)) ∙ ap some_of (sym none)
 
+-- nor does one of which an empty play is read
 pub empty_typed : (way : Direction) (text : List ℕ) (play : List Hop)
     → Some play ≡ onto [] (steps_of_line way (between 32 text)) → play ≡ [] → None ≡ steps_shown way text
 unfolding steps_shown
 empty_typed way text play some empty = sym (few_onto (steps_of_line way (between 32 text)) ∙ ap some_of (sym some)
     ∙ ap (λ p. some_of (Some p)) empty)
 
+-- it shows those that are read
 pub play_typed : (way : Direction) (text : List ℕ) (play : List Hop)
     → Some play ≡ onto [] (steps_of_line way (between 32 text)) → 0 < length play → Some play ≡ steps_shown way text
 unfolding steps_shown
@@ -390,11 +398,11 @@ play_typed way text play some long = sym (few_onto (steps_of_line way (between 3
     by_play [] none = absurd (omega (arith, none))
     by_play (step ∷ steps) none = refl
 
--- places, down to none
-
+-- what holds of the place 0 holds of each up to that
 pub first_alone : (P : ℕ → Type 0) (place : ℕ) → place ≡ 0 → P place → (p : ℕ) → p ≤ place → P p
 first_alone P place none here p low = subst P (omega (arith, none, low)) here
 
+-- and of one more place
 pub one_further : (P : ℕ → Type 0) (place : ℕ) → P place → ((p : ℕ) → p ≤ place - 1 → P p) → (p : ℕ) → p ≤ place → P p
 one_further P place here below p low = elim (cases_eq p place) [
   | inl e ↦ subst P (sym e) here

@@ -28,11 +28,12 @@ abbrev pub sent_text : Numbers → Direction → List ℕ → List ℕ
 sent_text numbers direction command =
     command ++ beside_in direction (counted numbers direction) (read_command direction command)
 
--- the same in the user's numbers alone: a decision as he types it, any other line as it was sent
+-- a line, or the decision that it is as the user types it
 abbrev pub spelled_in : Direction → List ℕ → Option DecisionValue → List ℕ
 spelled_in way line None = line
 spelled_in way line (Some d) = command_of way d
 
+-- what was sent, in the numbers that the user reads alone
 abbrev pub sent_told : Numbers → Direction → List ℕ → List ℕ
 sent_told numbers direction command =
     spelled_in (counted numbers direction) command (read_command direction command)

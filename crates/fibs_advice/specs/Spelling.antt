@@ -34,7 +34,7 @@ abbrev pub is_end : Option (List ℕ) → Bool
 is_end None = true
 is_end (Some text) = bytes_eq text []
 
--- a `*` may stand behind a name, where a checker is hit
+-- a `*` may follow a name, where a checker is hit
 unfoldable pub place_typed : Direction → List ℕ → Option ℕ
 place_typed way name = cond (is_end (after 42 name)) (place_named way (before 42 name)) None
 
@@ -112,10 +112,11 @@ one_to_four (Some (step ∷ steps)) = cond (nat_le (length (step ∷ steps)) 4) 
 unfoldable pub steps_shown : Direction → List ℕ → Option (List Hop)
 steps_shown way line = one_to_four (steps_of_line way (between 32 line))
 
--- how many checkers steps take from a place, and how many they bring there
+-- how many checkers steps take from a place
 abbrev pub taken_from : ℕ → List Hop → ℕ
 taken_from place steps = count_by (λ step. step.source == place) steps
 
+-- how many they bring there
 abbrev pub brought_to : ℕ → List Hop → ℕ
 brought_to place steps = count_by (λ step. step.target == place) steps
 

@@ -1,5 +1,5 @@
 -- Why the first line that takes leave of a match is only answered, and what it is answered breaks no other promise.
-use Rattle.std.proofs.Common.{◌≡◌, ◌⊎◌, ◌&&◌, ℕ, suc, Bool, not, true, false, nat_lt, List, [], ◌∷◌, length, Option, Some, None, Result, Ok, cond, codes, arith, refl, sym, ap, ◌∙◌, inl, inr}
+use Rattle.std.proofs.Common.{◌≡◌, ◌⊎◌, ◌&&◌, ℕ, suc, Bool, not, true, false, nat_lt, List, [], ◌∷◌, length, Option, Some, None, Ok, cond, codes, arith, refl, sym, ap, ◌∙◌, inl, inr}
 use Rattle.std.specs.Str.{bytes_eq}
 use Rattle.std.proofs.lemmas.Bool.{false≢true}
 use Rattle.std.proofs.lemmas.Slice.Eq.{bytes_eq-Decides}

@@ -1,18 +1,16 @@
 -- A line that shows steps is taken as the play that is meant by them.
-use Rattle.std.proofs.Common.{◌≡◌, ◌⊎◌, ◌==◌, ◌∷◌, ℕ, suc, arith, Bool, true, false, List, [], codes, nat_lt, length, Option, Some, None, Result, Ok, Err, IfOk, refl, sym, ap, ◌∙◌, subst, inl, inr}
-use Rattle.std.specs.Prelude.{option_map}
+use Rattle.std.proofs.Common.{◌≡◌, ◌==◌, ◌∷◌, ℕ, suc, arith, true, false, List, [], codes, length, Option, Some, None, Result, Ok, Err, IfOk, refl, sym, ap, ◌∙◌, subst}
 use Rattle.std.proofs.lemmas.Bool.{false≢true, true≢false, ne_eqb}
 use Rattle.fibs_fields.specs.Split.{before}
 use Rattle.fibs_rules.specs.Hop.{Hop}
-use Rattle.fibs_position.specs.DecisionValue.{DecisionValue, move}
+use Rattle.fibs_position.specs.DecisionValue.{move}
 use Rattle.fibs_position.specs.declared.direction.Direction.{Direction}
 use Rattle.fibs_position.specs.declared.numbers.Numbers.{Numbers}
 use Rattle.fibs_session.specs.History.Machine.{Talk}
 use Rattle.fibs_session.specs.Calls.Standing.{ClientValue, StandsAfter}
-use Rattle.fibs_session.specs.Typing.{decided, is_command, typed_by, typed_decision, typed_now, way_now}
-use Rattle.fibs_connect.specs.Wishes.{typed_limit}
+use Rattle.fibs_session.specs.Typing.{decided, is_command, typed_by, typed_decision, way_now}
 use Rattle.fibs_connect.specs.declared.wish.Wish.{Wish}
-use Rattle.fibs_advice.specs.Spelling.{IsMeantBy, IsReadAs, is_move_word, one_to_four, steps_of_word, steps_shown, is_filler, cut_of, times_in}
+use Rattle.fibs_advice.specs.Spelling.{IsReadAs, is_move_word, steps_of_word, steps_shown, is_filler, cut_of, times_in}
 use Rattle.fibs_advice.specs.declared.standing.Standing.{Standing}
 use Rattle.fibs_advice.proofs.SpellingLemmas.{none_shown}
 use Rattle.fibs_terminal.specs.Asking.{IsTakenAs, ShownGoesOn, TakesPlay}
@@ -58,6 +56,7 @@ unread : (t : Talk) (shown read : Option (List Hop)) (play : List Hop) → IsRea
 unread t None read play is none some = some_is_none (sym some ∙ is)
 unread t (Some steps) read play is none some = some_is_none none
 
+-- so no play is read of a line whose first word is `try`
 pub never_try : (numbers : Numbers) (t : Talk) (text line : List ℕ) (read : Option (List Hop)) (play : List Hop)
     → text ≡ line → IsReadAs t (steps_shown (way_now numbers t) text) read → read ≡ Some play
     → before 32 line ≡ codes "try" → ⊥
@@ -65,6 +64,7 @@ never_try numbers t text line read play same is some first = unread t _ read pla
     (none_shown (way_now numbers t) text (codes "try") (ap (before 32) same ∙ first) refl no_move_try
     (try_is_none (way_now numbers t))) some
 
+-- of `go`
 pub never_shown_go : (numbers : Numbers) (t : Talk) (text line : List ℕ) (read : Option (List Hop)) (play : List Hop)
     → text ≡ line → IsReadAs t (steps_shown (way_now numbers t) text) read → read ≡ Some play
     → line ≡ codes "go" → ⊥
@@ -72,6 +72,7 @@ never_shown_go numbers t text line read play same is some go = unread t _ read p
     (none_shown (way_now numbers t) text (codes "go") (ap (before 32) (same ∙ go)) refl no_move_go
     (go_is_none (way_now numbers t))) some
 
+-- and of `quit`
 pub never_shown_quit : (numbers : Numbers) (t : Talk) (text line : List ℕ) (read : Option (List Hop)) (play : List Hop)
     → text ≡ line → IsReadAs t (steps_shown (way_now numbers t) text) read → read ≡ Some play
     → line ≡ codes "quit" → ⊥
@@ -99,33 +100,6 @@ known_shows client numbers standing text before after (Err why) same known = tt
 known_shows client numbers standing text before after (Ok wish) same known =
     λ t stands short unknown steps shown. absurd (false≢true
     (sym unknown ∙ ap (λ x. is_command (typed_by numbers t x)) (sym same) ∙ sym (known t stands)))
-
--- a play that is read of the line is meant by what it shows
-read_meant : (t : Talk) (shown read : Option (List Hop)) (steps play : List Hop) → IsReadAs t shown read
-    → shown ≡ Some steps → read ≡ Some play → IsMeantBy t steps play
-read_meant t None read steps play is shown some = absurd (some_is_none (sym shown))
-read_meant t (Some others) read steps play is shown some =
-    subst (λ p. IsMeantBy t steps p) (some_same (sym is.1 ∙ some))
-    (subst (λ s. IsMeantBy t s is.0) (some_same shown) is.2)
-  where
-    some_same : {X : Type 0} {a b : X} → Some a ≡ Some b → a ≡ b
-    some_same {X} {a} {b} same = cc
-
--- a line of which a play is read is taken as that
-pub play_shows : {E : Type 0} (client : ClientValue) (numbers : Numbers) (standing : Standing)
-    (text before after : List ℕ) (read : Option (List Hop)) (play : List Hop) (result : Result Wish E) → text ≡ before
-    → ((t : Talk) → StandsAfter client t → IsReadAs t (steps_shown (way_now numbers t) text) read)
-    → read ≡ Some play
-    → IfOk result (λ wish. (t : Talk) → StandsAfter client t → TakesPlay t standing play after wish)
-    → ShownGoesOn client numbers standing before after result
-play_shows client numbers standing text before after read play (Err why) same is some takes = tt
-play_shows client numbers standing text before after read play (Ok wish) same is some takes =
-    λ t stands short unknown steps shown. (
-  play,
-  read_meant t (steps_shown (way_now numbers t) text) read steps play (is t stands)
-      (ap (steps_shown (way_now numbers t)) same ∙ shown) some,
-  takes t stands,
-)
 
 -- a line of which none is read shows no step
 pub other_shows : {E : Type 0} (client : ClientValue) (numbers : Numbers) (standing : Standing)

@@ -165,8 +165,8 @@ impl<W: Write + Drop, C: Clock + Drop> Words for Terminal<'_, W, C> {
         ensures known { KnownGoesOnOrAsks client.now self.old.screen.page.settings.numbers
             self.old.screen.memory.here.situation.standing self.new.screen.memory.here.table.leave
             line.old.items line.new.items result }
-        // A line that shows a move in any other spelling is taken as the play that is meant by the steps that it shows, by
-        // the numbers that the user reads: what goes on is a command which the client reads as that play by the
+        // A line that shows a move in any other spelling is taken as the play that is meant by the steps which it shows
+        // by the numbers that the user reads: what goes on is a line in which the client reads that play by the
         // server's direction.
         ensures shows { ShownGoesOn client.now self.old.screen.page.settings.numbers
             self.old.screen.memory.here.situation.standing line.old.items line.new.items result }

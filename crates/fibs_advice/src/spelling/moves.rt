@@ -1,12 +1,12 @@
 //! Moves as players type them: `8/5 6/5`, `8-5 6-5`, `8/5(2)`, `bar/20`, `6/off`, `24/18/13`.
-ghost use Rattle.std.specs.Prelude.{◌≡◌, ◌≤◌, ◌<◌, ◌++◌, ℕ, [], true, IfSome, Some, length, map, option_map, replicate};
+ghost use Rattle.std.specs.Prelude.{◌≡◌, ◌≤◌, ◌<◌, ℕ, [], true, IfSome, Some, length, map, option_map, replicate};
 ghost use Rattle.std.specs.Str.{bytes_eq};
 ghost use Rattle.fibs_fields.specs.Decimal.{decimal_up_to};
 ghost use Rattle.fibs_fields.specs.Split.{seen};
 ghost use Rattle.fibs_rules.specs.Hop.{hop_of};
 ghost use Rattle.fibs_rules.specs.PlayValue.{hops_of};
 ghost use Rattle.fibs_commands.specs.CommandReading.{numbered_place, step_between};
-ghost use Rattle.fibs_advice.specs.Spelling.{ChangesSame, LeadsSame, along, between, brought_to, cut_of, is_closed, is_end, is_filler, is_move_word, not_never, one_to_four, place_named, place_typed, repeated, steps_of_line, steps_of_word, steps_of_words, steps_shown, taken_from, times_in};
+ghost use Rattle.fibs_advice.specs.Spelling.{ChangesSame, LeadsSame, along, between, brought_to, cut_of, is_closed, is_end, is_filler, is_move_word, place_named, place_typed, steps_of_line, steps_of_word, steps_of_words, steps_shown, taken_from, times_in};
 ghost use Rattle.fibs_advice.specs.SpellingSteps.{onto};
 
 use fibs_commands::BAR;
@@ -121,12 +121,11 @@ fn with_times(step: Step, times: u64, play: Play) -> Option<Play>
     if times == 0 {
         return Some(play);
     }
-    let mut longer = play;
-    if longer.push(step) {
-        with_times(step, times - 1, longer)
-    } else {
-        None
+    let mut play = play;
+    if !play.push(step) {
+        return None;
     }
+    with_times(step, times - 1, play)
 }
 
 /// A play and after it the steps from a place to the first that is named, and on, each so often.

@@ -1,6 +1,5 @@
-use Rattle.std.proofs.Common.{ap, sym, ◌∙◌, arith, Some, [], None}
+use Rattle.std.proofs.Common.{ap, sym, ◌∙◌, arith, Some, None}
 use Rattle.fibs_fields.specs.Split.{seen}
-use Rattle.fibs_advice.specs.SpellingSteps.{onto}
 use Rattle.fibs_advice.proofs.SpellingLemmas.{after_none, line_begins, line_moves, line_skips, played_none, rest_shorter}
 use Rattle.fibs_advice.proofs.spelling.moves.+line_steps.Goals as goal
 

@@ -1,4 +1,4 @@
-use Rattle.std.proofs.Common.{ap, sym, ◌∙◌, Some, None}
+use Rattle.std.proofs.Common.{ap, sym, ◌∙◌}
 use Rattle.std.specs.Prelude.{option_map}
 use Rattle.fibs_fields.specs.Split.{seen}
 use Rattle.fibs_rules.specs.PlayValue.{hops_of}

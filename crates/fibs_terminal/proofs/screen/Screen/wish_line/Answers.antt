@@ -6,7 +6,7 @@ use Rattle.fibs_terminal.proofs.SendingLemmas.{command_on_word, command_untaken,
 use Rattle.fibs_terminal.proofs.TryingLemmas.{never_go, never_goes, never_known}
 use Rattle.std.specs.Prelude.{option_map}
 use Rattle.fibs_rules.specs.PlayValue.{hops_of}
-use Rattle.fibs_terminal.proofs.ShownLemmas.{empty_goes_on, empty_line, known_shows, never_shown_go, never_shown_quit, never_try, other_shows, play_shows}
+use Rattle.fibs_terminal.proofs.ShownLemmas.{empty_goes_on, empty_line, known_shows, never_shown_go, never_shown_quit, never_try, other_shows}
 use Rattle.fibs_terminal.proofs.screen.Screen.wish_line.Goals as goal
 
 pub returns-then-is_command_by-clause-known : goal.returns-then-is_command_by-clause-known
