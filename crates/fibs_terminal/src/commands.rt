@@ -299,7 +299,7 @@ fn say_unknown(line: &[u8], page: &mut Page<'_>) -> Result<(), AllocError> {
         return say_foreign(word, rest, page);
     }
     match help::word_help(word) {
-        Some(words) => page.say(words),
+        Some(words) => page.say_rows(words),
         None => say_meant(word, page),
     }
 }

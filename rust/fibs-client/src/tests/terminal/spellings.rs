@@ -2,6 +2,7 @@
 
 use super::lines::{SETTINGS, UP, WELCOME};
 use super::seats::{Cue, assert_ends, plain_settings};
+use crate::fibs_wording::environment::Settings;
 
 /// A board with the dice 6 and 5, on which the player goes down.
 const BOARD: &[u8] =
@@ -101,4 +102,12 @@ fn moves_are_spelled_out() {
         let shown = [Cue::Hears(WELCOME), Cue::Hears(SETTINGS), Cue::Hears(board)];
         assert_ends(plain_settings(), &shown, &[Cue::Types(line)], rows);
     }
+}
+
+#[test]
+fn what_is_said_of_a_line_that_is_no_move_is_spelled_in_narrow_rows() {
+    let narrow = Settings { columns: 40, ..plain_settings() };
+    let rows =
+        "24/18/13   one checker, two steps;\n24/13 too, if it can go one way only\nplays lists the legal moves.\n";
+    assert_ends(narrow, &SHOWN, &[Cue::Types(b"move 9")], rows);
 }
