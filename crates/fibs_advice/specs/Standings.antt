@@ -1,5 +1,9 @@
 -- What the user waits for (the project's own).
-use Rattle.std.specs.Prelude.{◌||◌, Bool, true, false, if◌then◌else◌}
+use Rattle.std.specs.Prelude.{◌&&◌, ◌||◌, Bool, not, true, false, Option, Some, None, if◌then◌else◌}
+use Rattle.fibs_events.specs.declared.told.Told.{Told}
+use Rattle.fibs_events.specs.declared.told.Told.TheVariants as T
+use Rattle.fibs_advice.specs.declared.standing.Shown.{Shown}
+use Rattle.fibs_advice.specs.declared.standing.Shown.TheVariants as W
 use Rattle.fibs_advice.specs.declared.standing.Standing.{Standing}
 use Rattle.fibs_advice.specs.declared.standing.Standing.TheVariants as S
 
@@ -111,3 +115,90 @@ hides_offers S.Reopened = true
 hides_offers S.Anew = true
 hides_offers S.Fresh = true
 hides_offers standing = false
+
+-- a text that leads to one state, whatever was before it
+abbrev pub leads_to : Told → Option Standing
+leads_to T.Begins = Some S.Fresh
+leads_to T.Resumes = Some S.Anew
+leads_to T.Doubles = Some S.Doubled
+leads_to T.Resigns = Some S.Resigned
+leads_to T.Joined = Some S.Joined
+leads_to told = None
+
+-- a text that ends what is on the table, in a match
+abbrev pub leads_in_match : Told → Option Standing
+leads_in_match T.Saved = Some S.Gone
+leads_in_match T.MatchOver = Some S.Free
+leads_in_match told = None
+
+-- a text tells that a state begins: no other one leads to it. To a state with no row here no text leads
+abbrev pub tells : Told → Standing → Bool
+tells T.MatchOver S.Free = true
+tells T.NoMatch S.Free = true
+tells T.Invited S.Invited = true
+tells T.Plays S.Asked = true
+tells T.Offered S.Offered = true
+tells T.Declined S.Refused = true
+tells T.Refused S.Refused = true
+tells T.NoDouble S.Refused = true
+tells T.NoOffer S.Refused = true
+tells T.ToRoll S.Same = true
+tells T.ToMove S.Same = true
+tells T.Taken S.Taken = true
+tells T.ToRoll S.Due = true
+tells T.ToMove S.Due = true
+tells T.Doubles S.Doubled = true
+tells T.Resigns S.Resigned = true
+tells T.Refused S.Owed = true
+tells T.MustAnswer S.Owed = true
+tells T.NoOffer S.Continued = true
+tells T.Continues S.Continued = true
+tells T.Plays S.Continued = true
+tells T.GameOver S.Ended = true
+tells T.NextGame S.Next = true
+tells T.Joined S.Joined = true
+tells T.Saved S.Gone = true
+tells T.NotPlaying S.Gone = true
+tells T.NotInvited S.Gone = true
+tells T.Resumes S.Anew = true
+tells T.Begins S.Fresh = true
+tells told standing = false
+
+-- a board tells that a state begins: no other one leads to it
+abbrev pub shows : Shown → Standing → Bool
+shows W.GameOver S.Ended = true
+shows W.GameOver S.Next = true
+shows W.MatchOver S.Ended = true
+shows W.Double S.Playing = true
+shows W.DoubleStands S.Same = true
+shows W.OfferStands S.Owed = true
+shows W.OfferStands S.Same = true
+shows W.OfferStands S.Offered = true
+shows W.OfferStands S.Back = true
+shows W.Stands S.Owed = true
+shows W.Stands S.Same = true
+shows W.Stands S.Back = true
+shows W.Plain S.Owed = true
+shows W.Plain S.Playing = true
+shows shown standing = false
+
+-- a board of a game that goes on, which shows no double
+abbrev pub is_undoubled : Shown → Bool
+is_undoubled W.OfferStands = true
+is_undoubled W.Stands = true
+is_undoubled W.Plain = true
+is_undoubled shown = false
+
+-- it is known that an offer of the opponent waits for the user, of which texts alone tell
+abbrev pub is_owed : Standing → Bool
+is_owed S.Unsettled = false
+is_owed standing = owes_answer standing
+
+-- an offer of the opponent is told by texts, and no board shows it
+abbrev pub is_told_by_text : Standing → Bool
+is_told_by_text S.Doubled = true
+is_told_by_text standing = owes_answer standing
+
+-- the state after the board that came last was found to confirm the decision that waited: offers are told by texts
+abbrev pub after_confirmed : Standing → Standing
+after_confirmed standing = if is_in_game standing && not (has_offer standing) then S.Playing else standing

@@ -1,7 +1,7 @@
 //! What the user waits for.
-ghost use Rattle.std.specs.Prelude.{◌≡◌, false};
+ghost use Rattle.std.specs.Prelude.{◌≡◌, ◌⊎◌, true, false, IfSome};
 ghost use Rattle.fibs_advice.specs.Situations.{after_another};
-ghost use Rattle.fibs_advice.specs.Standings.{after_answer, after_not_invited, after_sent, has_offer, hides_offers, is_called, is_in_game, is_in_match, is_open_again, is_unsure, owes_answer, repeats};
+ghost use Rattle.fibs_advice.specs.Standings.{after_answer, after_confirmed, after_not_invited, after_sent, has_offer, hides_offers, is_called, is_in_game, is_in_match, is_open_again, is_owed, is_told_by_text, is_undoubled, is_unsure, leads_in_match, leads_to, owes_answer, repeats, shows, tells};
 
 use fibs_events::told::Told;
 
@@ -120,7 +120,9 @@ impl Standing {
     }
 
     /// Whether an offer of the opponent is told by texts, and no board shows it.
-    pub fn is_told_by_text(self) -> bool {
+    pub fn is_told_by_text(self) -> bool
+        ensures { result ≡ is_told_by_text self }
+    {
         self == Standing::Doubled || self.owes_answer()
     }
 
@@ -167,7 +169,14 @@ impl Standing {
     }
 
     /// The state after a text.
-    pub fn after(self, told: Told) -> Standing {
+    pub fn after(self, told: Told) -> Standing
+        ensures told { (result ≡ self) ⊎ (tells told result ≡ true) }
+        ensures always { IfSome (leads_to told) (λ standing. result ≡ standing) }
+        ensures offered { is_in_game self ≡ true → told ≡ Told.Offered → result ≡ Standing.Offered }
+        ensures taken { is_in_game self ≡ true → told ≡ Told.Taken → result ≡ Standing.Taken }
+        ensures ended { is_in_game self ≡ true → told ≡ Told.GameOver → result ≡ Standing.Ended }
+        ensures over { is_in_match self ≡ true → IfSome (leads_in_match told) (λ standing. result ≡ standing) }
+    {
         match told {
             Told::Begins => Standing::Fresh,
             Told::Resumes => Standing::Anew,
@@ -189,7 +198,9 @@ impl Standing {
     }
 
     /// The state after the next game was said to wait for `join`.
-    fn after_next_game(self) -> Standing {
+    fn after_next_game(self) -> Standing
+        ensures { (result ≡ self) ⊎ (result ≡ Standing.Next) }
+    {
         match self {
             Standing::Joined => self,
             _ => Standing::Next,
@@ -197,7 +208,9 @@ impl Standing {
     }
 
     /// The state after the server has said that it is the user's turn: what is known better stays.
-    fn after_your_turn(self) -> Standing {
+    fn after_your_turn(self) -> Standing
+        ensures { (result ≡ self) ⊎ ((result ≡ Standing.Same) ⊎ (result ≡ Standing.Due)) }
+    {
         match self {
             Standing::Back => Standing::Same,
             Standing::Offered
@@ -213,7 +226,9 @@ impl Standing {
     }
 
     /// The state after an invitation: in a match it changes nothing.
-    fn after_invitation(self) -> Standing {
+    fn after_invitation(self) -> Standing
+        ensures { (result ≡ self) ⊎ (result ≡ Standing.Invited) }
+    {
         match self {
             Standing::Free | Standing::Gone | Standing::Reopened | Standing::Ended =>
                 Standing::Invited,
@@ -232,7 +247,9 @@ impl Standing {
     }
 
     /// The state after the server has said that there is no such match: an invitation still is.
-    fn after_no_match(self) -> Standing {
+    fn after_no_match(self) -> Standing
+        ensures { (result ≡ self) ⊎ (result ≡ Standing.Free) }
+    {
         match self {
             Standing::Gone | Standing::Reopened => Standing::Free,
             _ => self,
@@ -240,7 +257,9 @@ impl Standing {
     }
 
     /// The state after the server has said that the user plays with nobody.
-    fn after_not_playing(self) -> Standing {
+    fn after_not_playing(self) -> Standing
+        ensures { (result ≡ self) ⊎ (result ≡ Standing.Gone) }
+    {
         if self.is_in_game() || self == Standing::Reopened {
             Standing::Gone
         } else {
@@ -249,7 +268,11 @@ impl Standing {
     }
 
     /// The state after a text of a game, in a game.
-    fn after_game_text(self, told: Told) -> Standing {
+    fn after_game_text(self, told: Told) -> Standing
+        ensures told { (result ≡ self) ⊎ (tells told result ≡ true) }
+        ensures offered { told ≡ Told.Offered → result ≡ Standing.Offered }
+        ensures taken { told ≡ Told.Taken → result ≡ Standing.Taken }
+    {
         match told {
             Told::Declined if self != Standing::Playing && !self.keeps_offer() => Standing::Refused,
             Told::NoOffer if self.has_offer() || self == Standing::Continued => Standing::Continued,
@@ -302,7 +325,12 @@ impl Standing {
     }
 
     /// The state after a board; `asked` if the user has asked for it.
-    pub fn after_board(self, shown: Shown, asked: bool) -> Standing {
+    pub fn after_board(self, shown: Shown, asked: bool) -> Standing
+        ensures shown { (result ≡ self) ⊎ (shows shown result ≡ true) }
+        ensures over { shown ≡ Shown.MatchOver → result ≡ Standing.Ended }
+        ensures double { shown ≡ Shown.Double → result ≡ Standing.Playing }
+        ensures owed { is_owed self ≡ true → is_undoubled shown ≡ true → result ≡ self }
+    {
         match shown {
             Shown::GameOver => self.after_game_over(asked),
             Shown::MatchOver => Standing::Ended,
@@ -321,7 +349,9 @@ impl Standing {
 
     /// The state after a board of a game that is over. The server asks for `join` by a text, unless the match is over;
     /// a board that was asked for, or the first of a connection, is not followed by it.
-    fn after_game_over(self, asked: bool) -> Standing {
+    fn after_game_over(self, asked: bool) -> Standing
+        ensures { (result ≡ self) ⊎ ((result ≡ Standing.Ended) ⊎ (result ≡ Standing.Next)) }
+    {
         match self {
             Standing::Joined | Standing::Next => self,
             Standing::Ended if !asked => self,
@@ -332,7 +362,9 @@ impl Standing {
 
     /// The state after a board with a double that is to be answered, while a decision waits: the answer was refused or
     /// lost. If the board confirms the decision instead, that is said next.
-    fn after_double_stands(self, asked: bool) -> Standing {
+    fn after_double_stands(self, asked: bool) -> Standing
+        ensures { (result ≡ self) ⊎ (result ≡ Standing.Same) }
+    {
         if self == Standing::Asked && !asked {
             self
         } else {
@@ -341,13 +373,17 @@ impl Standing {
     }
 
     /// The state after a board that does not show a double: if it was asked for, no other one will.
-    fn after_undoubled(self, asked: bool) -> Standing {
+    fn after_undoubled(self, asked: bool) -> Standing
+        ensures { (result ≡ self) ⊎ (result ≡ Standing.Owed) }
+    {
         if asked { Standing::Owed } else { self }
     }
 
     /// The state after the board on which an offer was made: it says nothing of the offer. If it was asked for after an
     /// offer was answered or declined, the game is as it was.
-    fn after_offer_stands(self, asked: bool) -> Standing {
+    fn after_offer_stands(self, asked: bool) -> Standing
+        ensures { (result ≡ self) ⊎ (shows Shown.OfferStands result ≡ true) }
+    {
         match self {
             Standing::Due => Standing::Same,
             Standing::Asked if asked => Standing::Offered,
@@ -357,7 +393,9 @@ impl Standing {
     }
 
     /// The state after the board on which a decision was made that is no offer.
-    fn after_stands(self, asked: bool) -> Standing {
+    fn after_stands(self, asked: bool) -> Standing
+        ensures { (result ≡ self) ⊎ (shows Shown.Stands result ≡ true) }
+    {
         match self {
             Standing::Refused | Standing::Due => Standing::Same,
             Standing::Asked | Standing::Answered | Standing::Continued | Standing::Taken if asked =>
@@ -367,7 +405,9 @@ impl Standing {
     }
 
     /// The state after a board that says nothing of the decision that waits.
-    fn after_old_board(self) -> Standing {
+    fn after_old_board(self) -> Standing
+        ensures { (result ≡ self) ⊎ (result ≡ Standing.Back) }
+    {
         match self {
             Standing::Anew | Standing::Fresh => Standing::Back,
             _ if self.is_in_game() => self,
@@ -377,7 +417,9 @@ impl Standing {
 
     /// The state after the board that came last was found to confirm the decision that waited. It says nothing of an
     /// offer of which texts tell, nor of the answer that was just sent to one.
-    pub fn after_confirmed(self) -> Standing {
+    pub fn after_confirmed(self) -> Standing
+        ensures { result ≡ after_confirmed self }
+    {
         if self.is_in_game() && !self.has_offer() {
             Standing::Playing
         } else {
