@@ -10,6 +10,7 @@ pub mod Passing
 pub mod Rows
 pub mod Sending
 pub mod Situations
+pub mod Spelled
 pub mod Spelling
 pub mod SpellingSteps
 pub mod Standings

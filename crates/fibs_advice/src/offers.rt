@@ -1,10 +1,10 @@
 //! What may be decided now.
 ghost use Rattle.std.specs.Prelude.{◌≡◌, ◌++◌, true, IfOk, IfSome, OnOk, is_none};
 ghost use Rattle.fibs_position.specs.DecisionValue.{decision_of, move};
-ghost use Rattle.fibs_position.specs.DirectionOf.{direction_of};
 ghost use Rattle.fibs_rules.specs.PlayValue.{hops_of};
 ghost use Rattle.fibs_session.specs.History.Machine.{Talk, shown_now};
 ghost use Rattle.fibs_session.specs.Calls.Standing.{StandsAfter};
+ghost use Rattle.fibs_session.specs.Typing.{shown_direction};
 ghost use Rattle.fibs_advice.specs.Offers.{OffersNow, is_taken, may_decide, first_way, example_text, hint_words, hint_text};
 
 use fibs_commands::decision_text;
@@ -73,7 +73,7 @@ fn example(alloc: Global, client: &Client) -> Result<Option<Play>, AllocError>
 
 /// The direction of the board that is shown. Without a board it is that of a player who goes down.
 pub(crate) fn direction(client: &Client) -> Direction
-    ensures { (t : Talk) → StandsAfter client.now t → IfSome (shown_now t) (λ b. result ≡ direction_of b) }
+    ensures { (t : Talk) → StandsAfter client.now t → result ≡ shown_direction (shown_now t) }
 {
     match client.game() {
         None => Direction::Down,

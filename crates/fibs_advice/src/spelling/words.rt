@@ -1,16 +1,18 @@
 //! Words as players type them: with spaces at both ends, in capitals, and a few short ones.
-ghost use Rattle.std.specs.Prelude.{◌≡◌, true, IfOk, IfSome, option_map};
+ghost use Rattle.std.specs.Prelude.{◌≡◌, ◌++◌, true, false, IfOk, IfSome, OnOk, option_map};
+ghost use Rattle.fibs_commands.specs.TextOf.{text_of};
+ghost use Rattle.fibs_fields.specs.Split.{seen};
 ghost use Rattle.fibs_position.specs.DecisionValue.{move};
 ghost use Rattle.fibs_rules.specs.PlayValue.{hops_of};
-ghost use Rattle.fibs_session.specs.History.Machine.{Talk};
 ghost use Rattle.fibs_session.specs.Calls.Standing.{StandsAfter};
+ghost use Rattle.fibs_session.specs.History.Machine.{Talk};
 ghost use Rattle.fibs_session.specs.Typing.{way_now};
 ghost use Rattle.fibs_advice.specs.Offers.{is_taken};
+ghost use Rattle.fibs_advice.specs.Spelled.{IsMove, Spells, first_word, from_first, is_talk, joined, long_word, name_spelled, plain_spelled, small, small_first, takes_name, talk_spelled, word_spelled};
 ghost use Rattle.fibs_advice.specs.Spelling.{IsMeantBy, IsReadAs, LeadsSame, steps_shown};
 
 use crate::offers::is_taken;
 use crate::spelling::moves::{only_meaning, typed_move};
-use bstr::ByteSlice;
 use fibs_commands::{CommandText, decision_text};
 use fibs_fields::split::split;
 use fibs_fields::trailing_spaces::without_spaces;
@@ -27,22 +29,33 @@ const TALK: [&[u8]; 8] = [
 const NAMING: [&[u8]; 4] = [b"invite", b"join", b"gag", b"ungag"];
 
 /// What follows the spaces before the first word.
-fn from_first_word(line: &[u8]) -> &[u8] {
-    line.trim_start_with(|c| c == ' ')
+fn from_first_word(line: &[u8]) -> &[u8]
+    ensures { result.now ≡ from_first line.now }
+{
+    if line.is_empty() || line[0] != b' ' {
+        return line;
+    }
+    from_first_word(&line[1..])
 }
 
 /// Whether the word sends the rest of its line to people, or to the server as it is.
-fn is_talk(word: &[u8]) -> bool {
+fn is_talk(word: &[u8]) -> bool
+    ensures { result ≡ is_talk word.now }
+{
     TALK.contains(&word)
 }
 
 /// Whether names follow the word, whose capitals stay.
-fn takes_name(word: &[u8]) -> bool {
+fn takes_name(word: &[u8]) -> bool
+    ensures { result ≡ takes_name word.now }
+{
     NAMING.contains(&word)
 }
 
 /// The word for a short one. Of the decisions only `roll` and `move` have short words.
-fn long_word(word: &[u8]) -> &[u8] {
+fn long_word(word: &[u8]) -> &[u8]
+    ensures { result.now ≡ long_word word.now }
+{
     match word {
         b"r" => b"roll",
         b"m" => b"move",
@@ -114,7 +127,10 @@ fn move_command(
     client: &Client,
     numbers: Numbers,
     line: &[u8],
-) -> Result<Option<CommandText>, AllocError> {
+) -> Result<Option<CommandText>, AllocError>
+    ensures { IfOk result (λ found. IfSome found (λ command. (t : Talk) → StandsAfter client.now t →
+        IsMove (way_now numbers t) (text_of command))) }
+{
     match shown_move(alloc, client, numbers, line)? {
         None => Ok(None),
         Some(play) => {
@@ -125,7 +141,9 @@ fn move_command(
 }
 
 /// Appends a word, and what follows it after one space.
-fn append_word(word: &[u8], rest: Option<&[u8]>, text: &mut Vec<u8>) -> Result<(), AllocError> {
+fn append_word(word: &[u8], rest: Option<&[u8]>, text: &mut Vec<u8>) -> Result<(), AllocError>
+    ensures { OnOk result (text.new.items ≡ text.old.items ++ joined word.now (seen rest.entry)) }
+{
     text.extend_from_slice(word)?;
     if let Some(rest) = rest {
         text.extend_from_slice(b" ")?;
@@ -141,7 +159,10 @@ fn append_meaning(
     numbers: Numbers,
     line: &[u8],
     text: &mut Vec<u8>,
-) -> Result<(), AllocError> {
+) -> Result<(), AllocError>
+    ensures { OnOk result ((t : Talk) → StandsAfter client.now t →
+        Spells (way_now numbers t) (word_spelled line.now) text.old.items text.new.items) }
+{
     let (word, rest) = split(line, b' ');
     match move_command(alloc, client, numbers, line)? {
         Some(command) => text.extend_from_slice(command.as_bytes()),
@@ -156,7 +177,10 @@ fn append_plain(
     numbers: Numbers,
     line: &[u8],
     text: &mut Vec<u8>,
-) -> Result<(), AllocError> {
+) -> Result<(), AllocError>
+    ensures { OnOk result ((t : Talk) → StandsAfter client.now t →
+        Spells (way_now numbers t) (word_spelled (small line.now)) text.old.items text.new.items) }
+{
     let small = line.to_ascii_lowercase(alloc)?;
     append_meaning(alloc, client, numbers, small.as_slice(), text)
 }
@@ -164,7 +188,9 @@ fn append_plain(
 /// Appends a line without the spaces at its ends, and its first word in small letters.
 ///
 /// Errors: if memory runs out.
-pub fn append_small_word(alloc: Global, line: &[u8], text: &mut Vec<u8>) -> Result<(), AllocError> {
+pub fn append_small_word(alloc: Global, line: &[u8], text: &mut Vec<u8>) -> Result<(), AllocError>
+    ensures { OnOk result (text.new.items ≡ text.old.items ++ small_first line.now) }
+{
     let (word, rest) = split(without_spaces(from_first_word(line)), b' ');
     let small = word.to_ascii_lowercase(alloc)?;
     append_word(small.as_slice(), rest, text)
@@ -180,7 +206,15 @@ pub fn append_spelled(
     numbers: Numbers,
     line: &[u8],
     text: &mut Vec<u8>,
-) -> Result<(), AllocError> {
+) -> Result<(), AllocError>
+    ensures talk { is_talk (first_word line.now) ≡ true →
+        OnOk result (text.new.items ≡ text.old.items ++ talk_spelled line.now) }
+    ensures name { is_talk (first_word line.now) ≡ false → takes_name (first_word line.now) ≡ true →
+        OnOk result (text.new.items ≡ text.old.items ++ name_spelled line.now) }
+    ensures plain { is_talk (first_word line.now) ≡ false → takes_name (first_word line.now) ≡ false →
+        OnOk result ((t : Talk) → StandsAfter client.now t →
+        Spells (way_now numbers t) (plain_spelled line.now) text.old.items text.new.items) }
+{
     let line = from_first_word(line);
     let (word, rest) = split(line, b' ');
     let small = word.to_ascii_lowercase(alloc)?;
