@@ -1,4 +1,5 @@
--- How lists of places grow, what a trial tells, and how the steps that a line shows are read.
+-- How lists of places grow, what a trial tells, how the steps that a line shows are read, and what is advised.
+mod AdvisedLemmas
 mod PlacesLemmas
 mod TrialLemmas
 pub mod SpellingLemmas

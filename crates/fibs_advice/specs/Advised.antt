@@ -1,6 +1,6 @@
 -- What is advised in a state, and how a terminal says it (the project's own).
-use Rattle.std.specs.Prelude.{◌≡◌, ◌++◌, ◌∷◌, ℕ, List, [], codes, take, length, nat_lt, if◌then◌else◌, true, false, Option, Some, None, IfSome, is_none, option_map}
-use Rattle.fibs_position.specs.DecisionValue.{decision_of}
+use Rattle.std.specs.Prelude.{◌≡◌, ◌≢◌, ◌++◌, ◌∷◌, ℕ, List, [], codes, take, length, nat_lt, if◌then◌else◌, Bool, true, false, Option, Some, None, IfSome, is_none, option_map}
+use Rattle.fibs_position.specs.DecisionValue.{accept, decision_of, double, reject, roll}
 use Rattle.fibs_position.specs.NumbersOf.{counted}
 use Rattle.fibs_commands.specs.Commands.{command_of}
 use Rattle.fibs_commands.specs.PlainCommands.{automove_off, greedy_off}
@@ -8,12 +8,16 @@ use Rattle.fibs_position.specs.declared.decision.Decision.{Decision}
 use Rattle.fibs_position.specs.declared.decision.Decision.TheVariants as D
 use Rattle.fibs_position.specs.declared.direction.Direction.{Direction}
 use Rattle.fibs_position.specs.declared.numbers.Numbers.{Numbers}
-use Rattle.fibs_session.specs.History.Machine.{Talk, unconfirmed_now, plain_refusal}
+use Rattle.fibs_position.specs.declared.phase.Phase.{Phase}
+use Rattle.fibs_position.specs.declared.phase.Phase.TheVariants as P
+use Rattle.fibs_session.specs.History.Machine.{Talk, answer_now, unconfirmed_now, plain_refusal}
 use Rattle.fibs_advice.specs.Offers.{OffersNow, may_decide, first_way, hint_text}
 use Rattle.fibs_advice.specs.Standings.{comes_first, hides_offers, is_unsure}
-use Rattle.fibs_advice.specs.Passing.{AreRenewed, may_answer}
+use Rattle.fibs_advice.specs.Passing.{AreRenewed, is_greeted, may_answer}
 use Rattle.fibs_advice.specs.Sending.{MaySend}
+use Rattle.fibs_advice.specs.RowStates.{is_so_in, must_speak}
 use Rattle.fibs_advice.specs.Rows.{answers, names_way_on, opens_again, plain_in, rolls_alone, shows_offers, words_before, words_after}
+use Rattle.fibs_advice.specs.declared.offers.Offers.{Offers}
 use Rattle.fibs_advice.specs.declared.row.Row.{Row}
 use Rattle.fibs_advice.specs.declared.row.Row.TheVariants as R
 use Rattle.fibs_advice.specs.declared.standing.Standing.{Standing}
@@ -38,8 +42,37 @@ pub record Advises (t : Talk) (standing : Standing) (a : Advice) : Type 0 where
   pub other : IfSome a.other (λ d. MaySend t standing (decision_of d))
   pub again : opens_again a.row ≡ true → AreRenewed t standing a.send a.other
   pub answer : answers a.row ≡ true → may_answer t standing ≡ true
+  -- what the row tells is so in the state, and no state in which the server waits for the user is silent
+  pub so : is_so_in a.row standing ≡ true
+  pub loud : is_greeted (answer_now t roll) ≡ true → must_speak standing ≡ true → a.row ≢ R.Nothing
   -- the decision that waits
   pub asked : option_map decision_of a.asked ≡ option_map (λ ask. ask.1) (unconfirmed_now t)
+
+-- all that a row names may be typed, and it leaves out nothing that is to be said
+pub record MaySay (t : Talk) (standing : Standing) (o : Offers) (send other : Option Decision) (row : Row) : Type 0
+  where
+    pub rolls : rolls_alone row ≡ true → o.roll ≡ true
+    pub plain : IfSome (plain_in row) (λ p. plain_refusal t p ≡ None)
+    pub again : opens_again row ≡ true → AreRenewed t standing send other
+    pub answer : answers row ≡ true → may_answer t standing ≡ true
+    pub shown : hides_offers standing ≡ false → may_decide o ≡ true → shows_offers row ≡ true
+    pub named : is_unsure standing ≡ true → may_decide o ≡ true → names_way_on row ≡ true
+
+-- the decisions by which a game goes on, on a board in this phase: to double only if a double may be advised
+abbrev pub AreWays : Phase → Bool → Option Decision → Option Decision → Type 0
+AreWays P.RollOrDouble true first second = (first ≡ Some D.Roll) × (second ≡ Some D.Double)
+AreWays P.RollOrDouble false first second = (first ≡ Some D.Roll) × (second ≡ None)
+AreWays P.AnswerDouble doubles first second = (first ≡ Some D.Accept) × (second ≡ Some D.Reject)
+AreWays P.Move doubles first second = second ≡ None
+AreWays phase doubles first second = (first ≡ None) × (second ≡ None)
+
+-- what may go as it is in a phase is advised: to roll, to double, to accept, to reject
+abbrev pub SendsWays : Talk → Standing → Phase → Bool → Option Decision → Option Decision → Type 0
+SendsWays t standing P.RollOrDouble doubles send other = (MaySend t standing roll → send ≡ Some D.Roll)
+    × (doubles ≡ true → MaySend t standing double → other ≡ Some D.Double)
+SendsWays t standing P.AnswerDouble doubles send other = (MaySend t standing accept → send ≡ Some D.Accept)
+    × (MaySend t standing reject → other ≡ Some D.Reject)
+SendsWays t standing phase doubles send other = Unit {0}
 
 -- the command of a decision that is made in place of the one that waits, or those of two; by its numbers the user goes
 -- this way

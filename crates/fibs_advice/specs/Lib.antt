@@ -8,6 +8,7 @@ pub mod Moved
 pub mod Offers
 pub mod Passing
 pub mod Rows
+pub mod RowStates
 pub mod Sending
 pub mod Situations
 pub mod Spelled

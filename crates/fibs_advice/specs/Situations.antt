@@ -1,7 +1,9 @@
 -- What is remembered on a connection, each part in the box of what it is of (the project's own).
-use Rattle.std.specs.Prelude.{◌≡◌, ◌==◌, ◌&&◌, ◌||◌, ℕ, ℤ, pos, int_le, [], Bool, not, true, false, None, if◌then◌else◌}
+use Rattle.std.specs.Prelude.{◌≡◌, ◌==◌, ◌&&◌, ◌||◌, ℕ, ℤ, pos, int_le, List, [], codes, Bool, not, true, false, Option, Some, None, if◌then◌else◌}
 use Rattle.std.specs.Ordering.{int_eq}
+use Rattle.std.specs.Str.{bytes_eq}
 use Rattle.fibs_fields.specs.Board.{BoardFields, field_of}
+use Rattle.fibs_fields.specs.Split.{before}
 use Rattle.arrayvec.specs.ArrayVec.{ArrayVec, array_vec_len}
 use Rattle.fibs_advice.specs.Standings.{has_offer, is_in_match}
 use Rattle.fibs_advice.specs.declared.situation.BoardAsked.TheVariants as B
@@ -91,3 +93,15 @@ pub record IsNewOpponent (o : Opponent) : Type 0 where
   pub here : o.is_here ≡ false
   pub left : o.left ≡ L.Nothing
   pub double : o.game.refuses_double ≡ false
+
+-- what waits after a command: an offer, which changes no board, or another decision; None if it is no decision
+abbrev pub waiting_after : List ℕ → Option Waiting
+waiting_after line =
+    if bytes_eq (codes "double") (before 32 line) || bytes_eq (codes "resign") (before 32 line) then Some W.Offer else
+    if bytes_eq (codes "roll") (before 32 line) || (bytes_eq (codes "move") (before 32 line)
+    || (bytes_eq (codes "accept") (before 32 line) || bytes_eq (codes "reject") (before 32 line)))
+    then Some W.Other else None
+
+-- an answer to an offer
+abbrev pub is_answer_line : List ℕ → Bool
+is_answer_line line = bytes_eq line (codes "accept") || bytes_eq line (codes "reject")

@@ -1,12 +1,17 @@
 //! What is advised in a state.
-ghost use Rattle.std.specs.Prelude.{◌≡◌, ◌≢◌, true, false, None, IfOk, IfSome, IsTrue, is_none};
-ghost use Rattle.fibs_session.specs.History.Machine.{Talk, shown_now, plain_refusal};
-ghost use Rattle.fibs_position.specs.DecisionValue.{decision_of};
+ghost use Rattle.std.specs.Prelude.{◌≡◌, ◌≢◌, true, false, None, Some, IfOk, IfSome, IsTrue, is_none};
+ghost use Rattle.fibs_session.specs.History.Machine.{Talk, answer_now, shown_now, plain_refusal, unconfirmed_now};
+ghost use Rattle.fibs_session.specs.History.Words.{Ask};
+ghost use Rattle.fibs_fields.specs.Board.{BoardFields};
+ghost use Rattle.fibs_position.specs.GameOf.{game_of};
+ghost use Rattle.fibs_position.specs.Phases.{phase_of};
+ghost use Rattle.fibs_position.specs.DecisionValue.{decision_of, roll};
 ghost use Rattle.fibs_commands.specs.PlainOf.{plain_value};
 ghost use Rattle.fibs_session.specs.Calls.Standing.{StandsAfter};
-ghost use Rattle.fibs_advice.specs.Advised.{Advises};
-ghost use Rattle.fibs_advice.specs.Passing.{AreRenewed, IsRenewed, is_an_offer, may_answer};
+ghost use Rattle.fibs_advice.specs.Advised.{Advises, AreWays, MaySay, SendsWays};
+ghost use Rattle.fibs_advice.specs.Passing.{AreRenewed, IsRenewed, is_an_offer, is_greeted, may_answer};
 ghost use Rattle.fibs_advice.specs.Sending.{MaySend, rules_allow};
+ghost use Rattle.fibs_advice.specs.RowStates.{is_declined, is_double, is_off_table, is_so_in, may_double, may_have_turn, may_wait, must_speak, own_row, plays_himself};
 ghost use Rattle.fibs_advice.specs.Rows.{answers, is_of_game, names_way_on, opens_again, plain_in, rolls_alone, shows_offers};
 ghost use Rattle.fibs_advice.specs.Standings.{comes_first, hides_offers, is_unsure, sends};
 ghost use Rattle.fibs_advice.specs.Offers.{may_decide};
@@ -54,8 +59,10 @@ pub struct Aside {
 
 /// Whether the rules allow a decision on the board that is shown.
 fn is_allowed(client: &Client, decision: &Decision) -> bool
-    ensures { IsTrue result → (t : Talk) → StandsAfter client.now t →
+    ensures is { IsTrue result → (t : Talk) → StandsAfter client.now t →
         rules_allow (shown_now t) (decision_of decision.now) ≡ true }
+    ensures only { (t : Talk) → StandsAfter client.now t →
+        rules_allow (shown_now t) (decision_of decision.now) ≡ true → result ≡ true }
 {
     match client.game() {
         None => false,
@@ -65,7 +72,10 @@ fn is_allowed(client: &Client, decision: &Decision) -> bool
 
 /// Whether a decision may go as it is.
 fn may_send(client: &Client, standing: Standing, decision: &Decision) -> bool
-    ensures { IsTrue result → (t : Talk) → StandsAfter client.now t → MaySend t standing (decision_of decision.now) }
+    ensures is { IsTrue result → (t : Talk) → StandsAfter client.now t →
+        MaySend t standing (decision_of decision.now) }
+    ensures only { (t : Talk) → StandsAfter client.now t → MaySend t standing (decision_of decision.now) →
+        result ≡ true }
 {
     !is_taken(client, decision)
         && is_allowed(client, decision)
@@ -74,7 +84,10 @@ fn may_send(client: &Client, standing: Standing, decision: &Decision) -> bool
 
 /// A decision, if it may go as it is.
 fn sendable(client: &Client, standing: Standing, decision: Option<Decision>) -> Option<Decision>
-    ensures { IfSome result (λ d. (t : Talk) → StandsAfter client.now t → MaySend t standing (decision_of d)) }
+    ensures may { IfSome result (λ d. (t : Talk) → StandsAfter client.now t → MaySend t standing (decision_of d)) }
+    ensures double { is_double result ≡ true → is_double decision ≡ true }
+    ensures only { (t : Talk) → StandsAfter client.now t →
+        IfSome decision (λ d. MaySend t standing (decision_of d)) → result ≡ decision }
 {
     decision.filter(|decision| may_send(client, standing, decision))
 }
@@ -89,8 +102,10 @@ fn is_plain_taken(client: &Client, plain: &Plain<'_>) -> bool
 
 /// Whether the client takes the line that a row names, if it names one.
 fn is_row_taken(client: &Client, row: Row) -> bool
-    ensures { IsTrue result → (t : Talk) → StandsAfter client.now t →
+    ensures is { IsTrue result → (t : Talk) → StandsAfter client.now t →
         IfSome (plain_in row) (λ p. plain_refusal t p ≡ None) }
+    ensures only { (t : Talk) → StandsAfter client.now t → IfSome (plain_in row) (λ p. plain_refusal t p ≡ None) →
+        result ≡ true }
 {
     row.plain()
         .is_none_or(|plain| is_plain_taken(client, &plain))
@@ -102,6 +117,8 @@ fn says_offers(standing: Standing, offers: &Offers, row: Row) -> bool
         hides_offers standing ≡ false → may_decide offers.now ≡ true → shows_offers row ≡ true }
     ensures named { IsTrue result →
         is_unsure standing ≡ true → may_decide offers.now ≡ true → names_way_on row ≡ true }
+    ensures only { (hides_offers standing ≡ false → may_decide offers.now ≡ true → shows_offers row ≡ true) →
+        (is_unsure standing ≡ true → may_decide offers.now ≡ true → names_way_on row ≡ true) → result ≡ true }
 {
     !offers.may_decide()
         || ((standing.hides_offers() || row.shows_offers())
@@ -110,14 +127,16 @@ fn says_offers(standing: Standing, offers: &Offers, row: Row) -> bool
 
 /// Whether a decision goes past the client, if there is one.
 fn is_renewed(client: &Client, standing: Standing, way: Option<Decision>) -> bool
-    ensures { IsTrue result → (t : Talk) → StandsAfter client.now t → IsRenewed t standing way }
+    ensures is { IsTrue result → (t : Talk) → StandsAfter client.now t → IsRenewed t standing way }
+    ensures only { (t : Talk) → StandsAfter client.now t → IsRenewed t standing way → result ≡ true }
 {
     way.is_none_or(|decision| goes_past(client, standing, &decision))
 }
 
 /// Whether each of these goes past the client.
 fn are_renewed(client: &Client, standing: Standing, ways: Ways) -> bool
-    ensures { IsTrue result → (t : Talk) → StandsAfter client.now t → AreRenewed t standing ways.0 ways.1 }
+    ensures is { IsTrue result → (t : Talk) → StandsAfter client.now t → AreRenewed t standing ways.0 ways.1 }
+    ensures only { (t : Talk) → StandsAfter client.now t → AreRenewed t standing ways.0 ways.1 → result ≡ true }
 {
     is_renewed(client, standing, ways.0) && is_renewed(client, standing, ways.1)
 }
@@ -131,6 +150,8 @@ fn is_true(client: &Client, standing: Standing, offers: &Offers, ways: Ways, row
         AreRenewed t standing ways.0 ways.1 }
     ensures answer { IsTrue result → answers row ≡ true → (t : Talk) → StandsAfter client.now t →
         may_answer t standing ≡ true }
+    ensures only { (t : Talk) → StandsAfter client.now t → MaySay t standing offers.now ways.0 ways.1 row →
+        result ≡ true }
 {
     (!row.rolls_alone() || offers.roll)
         && is_row_taken(client, row)
@@ -149,6 +170,10 @@ fn true_row(client: &Client, standing: Standing, offers: &Offers, ways: Ways, ro
         AreRenewed t standing ways.0 ways.1 }
     ensures answer { answers result ≡ true → (t : Talk) → StandsAfter client.now t → may_answer t standing ≡ true }
     ensures row { result ≢ Row.Offers → result ≡ row }
+    ensures so { is_so_in row standing ≡ true → is_so_in result standing ≡ true }
+    ensures loud { row ≢ Row.Nothing → result ≢ Row.Nothing }
+    ensures kept { (t : Talk) → StandsAfter client.now t → MaySay t standing offers.now ways.0 ways.1 row →
+        result ≡ row }
 {
     if is_true(client, standing, offers, ways, row) && says_offers(standing, offers, row) {
         row
@@ -162,7 +187,9 @@ fn move_on(
     alloc: Global,
     client: &Client,
     position: &Position,
-) -> Result<Option<Decision>, AllocError> {
+) -> Result<Option<Decision>, AllocError>
+    ensures { IfOk result (λ way. is_double way ≡ false) }
+{
     if let Some(asked) = client.waiting() {
         if let Decision::Move(_) = asked.decision {
             if position.allows(&asked.decision).is_ok() {
@@ -181,7 +208,12 @@ fn ways_on(
     client: &Client,
     game: &GameBoard,
     situation: &Situation,
-) -> Result<Ways, AllocError> {
+) -> Result<Ways, AllocError>
+    ensures first { IfOk result (λ ways. is_double ways.0 ≡ false) }
+    ensures second { IfOk result (λ ways. is_double ways.1 ≡ true → may_double situation.now ≡ true) }
+    ensures ways { IfOk result (λ ways.
+        AreWays (phase_of (game_of game.now)) (may_double situation.now) ways.0 ways.1) }
+{
     let doubles = !situation.refuses_double() && situation.standing != Standing::Offered;
     match game.phase() {
         Phase::RollOrDouble if doubles => Ok((Some(Decision::Roll), Some(Decision::Double))),
@@ -205,7 +237,14 @@ fn sends(standing: Standing, waiting: &Decision) -> bool
 }
 
 /// The decisions that are advised, before each of them is tested.
-fn ways(alloc: Global, client: &Client, situation: &Situation) -> Result<Ways, AllocError> {
+fn ways(alloc: Global, client: &Client, situation: &Situation) -> Result<Ways, AllocError>
+    ensures first { IfOk result (λ ways. is_double ways.0 ≡ false) }
+    ensures second { IfOk result (λ ways. is_double ways.1 ≡ true → may_double situation.now ≡ true) }
+    ensures ways { IfOk result (λ ways. (t : Talk) → StandsAfter client.now t → (b : BoardFields) →
+        shown_now t ≡ Some b → (ask : Ask) → unconfirmed_now t ≡ Some ask →
+        sends situation.now.standing (is_an_offer ask.1) ≡ true →
+        AreWays (phase_of b) (may_double situation.now) ways.0 ways.1) }
+{
     let (Some(asked), Some(game)) = (client.waiting(), client.game()) else {
         return Ok((None, None));
     };
@@ -229,7 +268,9 @@ fn is_deciding(client: &Client) -> bool {
 
 /// What is said if nothing waits: what the client takes; and if no board is shown, how one is.
 fn row_of_game(client: &Client) -> Row
-    ensures { is_of_game result ≡ true }
+    ensures game { is_of_game result ≡ true }
+    ensures loud { result ≢ Row.Nothing }
+    ensures so { (s : Standing) → may_have_turn s ≡ true → is_so_in result s ≡ true }
 {
     if client.game().is_some() {
         Row::Offers
@@ -240,7 +281,8 @@ fn row_of_game(client: &Client) -> Row
 
 /// What is said of a decision that was refused, or that waits though its board came again.
 fn row_of_refused(client: &Client, standing: Standing, has_way: bool) -> Row
-    ensures { is_of_game result ≡ true }
+    ensures game { is_of_game result ≡ true }
+    ensures so { is_declined standing ≡ true → is_so_in result standing ≡ true }
 {
     if client.waiting().is_none() {
         return row_of_game(client);
@@ -255,7 +297,9 @@ fn row_of_refused(client: &Client, standing: Standing, has_way: bool) -> Row
 
 /// What is said if a decision waits of which nothing was heard, or if none waits: what the client takes.
 fn row_of_waiting(client: &Client) -> Row
-    ensures { is_of_game result ≡ true }
+    ensures game { is_of_game result ≡ true }
+    ensures loud { result ≢ Row.Nothing }
+    ensures so { (s : Standing) → may_wait s ≡ true → is_so_in result s ≡ true }
 {
     if client.waiting().is_some() {
         Row::Waits
@@ -264,9 +308,24 @@ fn row_of_waiting(client: &Client) -> Row
     }
 }
 
+/// What is said of a match that was resumed: that a decision waits, if one does.
+fn row_of_resumed(client: &Client) -> Row
+    ensures game { is_of_game result ≡ true }
+    ensures so { (s : Standing) → may_wait s ≡ true → is_so_in result s ≡ true }
+    ensures none { result ≢ Row.Offers }
+{
+    if client.waiting().is_some() {
+        Row::Waits
+    } else {
+        Row::Nothing
+    }
+}
+
 /// What is said if the server has said that it is the user's turn: what the client takes, else that the board shows it.
 fn row_of_turn(offers: &Offers) -> Row
-    ensures { is_of_game result ≡ true }
+    ensures game { is_of_game result ≡ true }
+    ensures loud { result ≢ Row.Nothing }
+    ensures so { (s : Standing) → may_have_turn s ≡ true → is_so_in result s ≡ true }
 {
     if offers.may_decide() {
         Row::Offers
@@ -278,7 +337,8 @@ fn row_of_turn(offers: &Offers) -> Row
 /// What is said after the user has declined an offer to resign, or a game has begun: if it is his turn, its board is
 /// still to come.
 fn row_of_continued(client: &Client, is_due: bool) -> Row
-    ensures { is_of_game result ≡ true }
+    ensures game { is_of_game result ≡ true }
+    ensures so { (s : Standing) → may_have_turn s ≡ true → may_wait s ≡ true → is_so_in result s ≡ true }
 {
     if is_due {
         Row::Turn
@@ -291,7 +351,11 @@ fn row_of_continued(client: &Client, is_due: bool) -> Row
 
 /// What is said in a game.
 fn row_in_game(client: &Client, situation: &Situation, offers: &Offers, has_way: bool) -> Row
-    ensures { is_of_game result ≡ true }
+    ensures game { is_of_game result ≡ true }
+    ensures so { is_so_in result situation.now.standing ≡ true }
+    ensures own { (row : Row) → own_row situation.now.standing ≡ Some row → result ≡ row }
+    ensures none { result ≡ Row.Offers → own_row situation.now.standing ≡ None }
+    ensures loud { must_speak situation.now.standing ≡ true → result ≢ Row.Nothing }
 {
     let standing = situation.standing;
     match standing {
@@ -304,8 +368,8 @@ fn row_in_game(client: &Client, situation: &Situation, offers: &Offers, has_way:
         Standing::Doubled => Row::Doubles,
         Standing::Refused | Standing::Same => row_of_refused(client, standing, has_way),
         Standing::Back if has_way => Row::Back,
-        Standing::Anew if client.waiting().is_none() => Row::Nothing,
-        Standing::Asked | Standing::Anew | Standing::Taken => row_of_waiting(client),
+        Standing::Anew => row_of_resumed(client),
+        Standing::Asked | Standing::Taken => row_of_waiting(client),
         Standing::Due => row_of_turn(offers),
         Standing::Answered => Row::Waits,
         Standing::Continued | Standing::Fresh => row_of_continued(client, situation.is_due()),
@@ -314,10 +378,29 @@ fn row_in_game(client: &Client, situation: &Situation, offers: &Offers, has_way:
     }
 }
 
+/// What is said in a game, and of a double that was refused or accepted, if the user may double.
+fn row_with_double(client: &Client, situation: &Situation, offers: &Offers, has_way: bool) -> Row
+    ensures server { result ≢ Row.ServerPlays }
+    ensures undoubled { result ≡ Row.Undoubled → offers.now.double ≡ true }
+    ensures refused { result ≡ Row.Undoubled → situation.now.opponent.game.refuses_double ≡ true }
+    ensures so { is_so_in result situation.now.standing ≡ true }
+    ensures own { (row : Row) → own_row situation.now.standing ≡ Some row → result ≡ row }
+    ensures loud { must_speak situation.now.standing ≡ true → result ≢ Row.Nothing }
+{
+    match row_in_game(client, situation, offers, has_way) {
+        Row::Offers if offers.double && situation.refuses_double() => Row::Undoubled,
+        // the board that is shown is one from before the double
+        Row::Offers if offers.double && situation.standing == Standing::Taken => Row::Accepted,
+        row => row,
+    }
+}
+
 /// What is said of a match that is off the table.
 fn row_of_saved(situation: &Situation, is_listed: bool) -> Row
     ensures server { result ≢ Row.ServerPlays }
     ensures undoubled { result ≢ Row.Undoubled }
+    ensures so { is_off_table situation.now.standing ≡ true → is_so_in result situation.now.standing ≡ true }
+    ensures invited { situation.now.standing ≡ Standing.Invited → result ≡ Row.Invited }
 {
     match situation.standing {
         Standing::Invited => Row::Invited,
@@ -357,6 +440,12 @@ fn row_of(
 ) -> Row
     ensures server { result ≡ Row.ServerPlays → comes_first situation.now.standing ≡ false }
     ensures undoubled { result ≡ Row.Undoubled → offers.now.double ≡ true }
+    ensures refused { result ≡ Row.Undoubled → situation.now.opponent.game.refuses_double ≡ true }
+    ensures so { is_so_in result situation.now.standing ≡ true }
+    ensures loud { (t : Talk) → StandsAfter client.now t → is_greeted (answer_now t roll) ≡ true →
+        must_speak situation.now.standing ≡ true → result ≢ Row.Nothing }
+    ensures own { (t : Talk) → StandsAfter client.now t → plays_himself (answer_now t roll) ≡ true →
+        situation.now.logs_in ≡ false → (row : Row) → own_row situation.now.standing ≡ Some row → result ≡ row }
 {
     let standing = situation.standing;
     match client.refusal(&Decision::Roll) {
@@ -375,12 +464,7 @@ fn row_of(
         Standing::Gone | Standing::Reopened | Standing::Invited => {
             row_of_saved(situation, aside.is_listed)
         }
-        _ => match row_in_game(client, situation, offers, has_way) {
-            Row::Offers if offers.double && situation.refuses_double() => Row::Undoubled,
-            // the board that is shown is one from before the double
-            Row::Offers if offers.double && standing == Standing::Taken => Row::Accepted,
-            row => row,
-        },
+        _ => row_with_double(client, situation, offers, has_way),
     }
 }
 
@@ -395,7 +479,22 @@ pub fn advised(
     situation: &Situation,
     aside: Aside,
 ) -> Result<Advice, AllocError>
-    ensures { IfOk result (λ a. (t : Talk) → StandsAfter client.now t → Advises t situation.now.standing a) }
+    ensures advises { IfOk result (λ a. (t : Talk) → StandsAfter client.now t → Advises t situation.now.standing a) }
+    // If a state in a game has a row of its own, that is said, unless something that it names may not be typed.
+    ensures own { IfOk result (λ a. (t : Talk) → StandsAfter client.now t → plays_himself (answer_now t roll) ≡ true →
+        situation.now.logs_in ≡ false → (row : Row) → own_row situation.now.standing ≡ Some row →
+        MaySay t situation.now.standing a.offers a.send a.other row → a.row ≡ row) }
+    // While a decision waits, and the state asks for lines that go as they are, those are named that may go so.
+    ensures sent { IfOk result (λ a. (t : Talk) → StandsAfter client.now t → (b : BoardFields) →
+        shown_now t ≡ Some b → (ask : Ask) → unconfirmed_now t ≡ Some ask →
+        sends situation.now.standing (is_an_offer ask.1) ≡ true →
+        SendsWays t situation.now.standing (phase_of b) (may_double situation.now) a.send a.other) }
+    // That the server refused a double is said only if it did.
+    ensures refused { IfOk result (λ a.
+        a.row ≡ Row.Undoubled → situation.now.opponent.game.refuses_double ≡ true) }
+    // A double goes as it is only if the server has refused none in this game, and no offer is before the opponent.
+    ensures double { IfOk result (λ a. is_double a.send ≡ false
+        × (is_double a.other ≡ true → may_double situation.now ≡ true)) }
 {
     let standing = situation.standing;
     let offers = offered(alloc, client)?;

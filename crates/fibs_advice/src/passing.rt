@@ -137,8 +137,10 @@ pub fn passing_of(client: &Client, standing: Standing, decision: &Decision) -> P
 
 /// Whether a decision goes past the client.
 pub(crate) fn goes_past(client: &Client, standing: Standing, decision: &Decision) -> bool
-    ensures { IsTrue result → (t : Talk) → StandsAfter client.now t →
+    ensures is { IsTrue result → (t : Talk) → StandsAfter client.now t →
         GoesPast t standing (decision_of decision.now) }
+    ensures only { (t : Talk) → StandsAfter client.now t → GoesPast t standing (decision_of decision.now) →
+        result ≡ true }
 {
     matches!(
         passing_of(client, standing, decision),

@@ -1,11 +1,11 @@
 //! What the user waits for, of whom, and on what. Each part is in the box of what it is of: a connection, an opponent,
 //! a game, a turn, an invitation. When that ends its box is replaced by a new one.
-ghost use Rattle.std.specs.Prelude.{◌≡◌, ◌≢◌, ◌≤◌, ◌↔◌, ◌⊎◌, length, true, false, IsTrue};
+ghost use Rattle.std.specs.Prelude.{◌≡◌, ◌≢◌, ◌≤◌, ◌↔◌, ◌⊎◌, length, true, false, None, Some, IfSome, IsTrue, is_some};
 ghost use Rattle.arrayvec.specs.ArrayVec.{array_vec_len};
 ghost use Rattle.fibs_fields.specs.StoredBoard.{fields_of};
 ghost use Rattle.fibs_position.specs.GameOf.{game_of};
-ghost use Rattle.fibs_advice.specs.Situations.{IsNewOpponent, inviter_of, kept_of, met, new_game, new_turn, no_name, is_match_over, is_won, open_offer, opened_with, opponent_of};
-ghost use Rattle.fibs_advice.specs.Standings.{after_not_invited, is_called};
+ghost use Rattle.fibs_advice.specs.Situations.{IsNewOpponent, inviter_of, is_answer_line, kept_of, met, new_game, new_turn, no_name, is_match_over, is_won, open_offer, opened_with, opponent_of, waiting_after};
+ghost use Rattle.fibs_advice.specs.Standings.{after_confirmed, after_not_invited, is_called};
 
 use crate::standing::{Shown, Standing};
 use arrayvec::ArrayVec;
@@ -182,7 +182,9 @@ impl Inviter {
 }
 
 /// What waits after a command: None if it is no decision.
-fn decision_in(line: &[u8]) -> Option<Waiting> {
+fn decision_in(line: &[u8]) -> Option<Waiting>
+    ensures { result ≡ waiting_after line.now }
+{
     let word = split(line, b' ').0;
     if OFFERS.contains(&word) {
         Some(Waiting::Offer)
@@ -194,7 +196,9 @@ fn decision_in(line: &[u8]) -> Option<Waiting> {
 }
 
 /// Whether a line is an answer to an offer.
-fn is_answer(line: &[u8]) -> bool {
+fn is_answer(line: &[u8]) -> bool
+    ensures { result ≡ is_answer_line line.now }
+{
     line == b"accept".as_slice() || line == b"reject".as_slice()
 }
 
@@ -241,7 +245,12 @@ fn is_won(length: i32, own: i32, other: i32) -> bool
 
 impl Situation {
     /// Nothing was said.
-    pub fn new() -> Situation {
+    pub fn new() -> Situation
+        ensures standing { result.standing ≡ Standing.Free }
+        ensures opponent { result.opponent ≡ opponent_of no_name Left.Nothing }
+        ensures login { result.logs_in ≡ false }
+        ensures waiting { result.waiting ≡ Waiting.Nothing }
+    {
         let mut situation = Situation::opened(Kept {
             opponent: nobody(),
             left: Left::Nothing,
@@ -281,18 +290,27 @@ impl Situation {
     }
 
     /// Whether `board` was sent after the last decision, and has not been answered.
-    pub fn asks_board(&self) -> bool {
+    pub fn asks_board(&self) -> bool
+        ensures { IsTrue result ↔ (self.now.asked ≡ BoardAsked.Now) }
+    {
         self.asked == BoardAsked::Now
     }
 
     /// Whether a board that comes now was asked for.
-    pub fn awaits_board(&self) -> bool {
+    pub fn awaits_board(&self) -> bool
+        ensures { IsTrue result ↔ (self.now.asked ≢ BoardAsked.Nothing) }
+    {
         self.asked != BoardAsked::Nothing
     }
 
     /// The server has answered `board` by something else than a board of the user's game. True if that was asked after
     /// the last decision. The text that the next game waits may have come by itself: then a board may follow.
-    pub fn hear_no_board(&mut self, may_follow: bool) -> bool {
+    pub fn hear_no_board(&mut self, may_follow: bool) -> bool
+        ensures asks { IsTrue result ↔ (self.old.asked ≡ BoardAsked.Now) }
+        ensures answered { self.new.asked ≢ BoardAsked.Now }
+        ensures ends { may_follow ≡ false → self.new.asked ≡ BoardAsked.Nothing }
+        ensures kept { self.new ≡ record self.old { asked = self.new.asked } }
+    {
         let asks = self.asks_board();
         self.asked = if may_follow && self.awaits_board() {
             BoardAsked::Before
@@ -303,24 +321,35 @@ impl Situation {
     }
 
     /// Whether the server has refused a double in this game.
-    pub fn refuses_double(&self) -> bool {
+    pub fn refuses_double(&self) -> bool
+        ensures { result ≡ self.now.opponent.game.refuses_double }
+    {
         self.opponent.game.refuses_double
     }
 
     /// Whether the user has the turn and has not decided, as far as is known.
-    pub(crate) fn is_due(&self) -> bool {
+    pub(crate) fn is_due(&self) -> bool
+        ensures { result ≡ self.now.opponent.game.turn.is_due }
+    {
         self.opponent.game.turn.is_due
     }
 
     /// The server has greeted the user.
-    pub fn hear_welcome(&mut self) {
+    pub fn hear_welcome(&mut self)
+        ensures { self.new ≡ record self.old { logs_in = false } }
+    {
         self.logs_in = false;
     }
 
     /// A player has logged in.
-    pub fn hear_login(&mut self, name: &[u8]) {
+    pub fn hear_login(&mut self, name: &[u8])
+        ensures here { self.old.opponent.name.items ≡ name.now → self.new.opponent.is_here ≡ true }
+        ensures others { self.old.opponent.name.items ≢ name.now → self.new.opponent ≡ self.old.opponent }
+        ensures standing { self.new.standing ≡ self.old.standing }
+        ensures heard { self.new.hears_others ≡ true }
+    {
         self.hears_others = true;
-        if self.opponent.name.as_slice() == name {
+        if is_same(self.opponent.name.as_slice(), name) {
             self.opponent.is_here = true;
         }
     }
@@ -358,6 +387,7 @@ impl Situation {
         ensures due { self.new.opponent.game.turn.is_due ≡ false }
         ensures asked { self.new.asked ≡ self.old.asked }
         ensures once { is_called self.new.standing ≡ false }
+        ensures waiting { self.new.waiting ≡ self.old.waiting }
     {
         self.opponent.left = Left::Nothing;
         self.opponent.game.turn.is_due = false;
@@ -365,13 +395,17 @@ impl Situation {
     }
 
     /// The message of the day begins, or ends.
-    pub fn hear_motd(&mut self, begins: bool) {
+    pub fn hear_motd(&mut self, begins: bool)
+        ensures { self.new ≡ record self.old { is_motd = begins } }
+    {
         self.is_motd = begins;
     }
 
     /// Whether the login was refused, by the line that has not ended: the server asks for it, or has said something
     /// else in place of the greeting, though there was time for it.
-    pub fn is_login_refused(&self, unfinished: &[u8], had_time: bool) -> bool {
+    pub fn is_login_refused(&self, unfinished: &[u8], had_time: bool) -> bool
+        ensures { IsTrue result → self.now.logs_in ≡ true }
+    {
         self.logs_in && (unfinished.ends_with(LOGIN_PROMPT) || (self.hears_others && had_time))
     }
 
@@ -382,6 +416,8 @@ impl Situation {
         ensures asked { IsTrue result → self.new.asked ≡ BoardAsked.Nothing }
         // It calls for no decision: only what the server says does.
         ensures own { is_called self.new.standing ≡ true → self.new.standing ≡ self.old.standing }
+        ensures decides { result ≡ is_some (waiting_after command.now) }
+        ensures waits { IfSome (waiting_after command.now) (λ waiting. self.new.waiting ≡ waiting) }
     {
         if let Some(waiting) = decision_in(command) {
             self.waiting = waiting;
@@ -438,10 +474,12 @@ impl Situation {
     }
 
     /// Whether a text is of others: of a game that the user watches.
-    fn is_of_others(&self, report: &Report<'_>) -> bool {
+    fn is_of_others(&self, report: &Report<'_>) -> bool
+        ensures { IsTrue result → self.now.opponent.name.items ≢ report.now.name.now }
+    {
         report.told.is_of_opponent()
             && !self.opponent.name.is_empty()
-            && self.opponent.name.as_slice() != report.name
+            && !is_same(self.opponent.name.as_slice(), report.name)
     }
 
     /// Whether a text says that it is the user's turn, of the board on which the decision was made that was sent: it
@@ -495,6 +533,9 @@ impl Situation {
     /// Hears a text of the server. What it says of the match, if it says anything that counts.
     pub fn hear_text(&mut self, text: &[u8]) -> Option<Told>
         ensures game { (result ≡ Some Told.Begins) ⊎ (result ≡ Some Told.Resumes) → self.new.opponent.game ≡ new_game }
+        // A text that says nothing that counts changes nothing, and no line of the message of the day counts.
+        ensures unheard { result ≡ None → self.new ≡ self.old }
+        ensures motd { self.old.is_motd ≡ true → result ≡ None }
     {
         if self.is_motd {
             return None;
@@ -685,7 +726,12 @@ impl Situation {
     }
 
     /// The board that came last confirms the decision that waited.
-    pub fn hear_confirmed(&mut self) {
+    pub fn hear_confirmed(&mut self)
+        ensures waiting { self.new.waiting ≡ Waiting.Nothing }
+        ensures standing { self.new.standing ≡ after_confirmed self.old.standing }
+        ensures inviter { self.new.inviter ≡ self.old.inviter }
+        ensures left { self.new.opponent.left ≡ self.old.opponent.left }
+    {
         self.waiting = Waiting::Nothing;
         self.standing = self.standing.after_confirmed();
         self.opponent.game.turn.is_due = self.is_due_now();
