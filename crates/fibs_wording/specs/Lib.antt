@@ -1,8 +1,9 @@
 -- What the server's texts say of invitations and of saved matches, matches that have ended, and how rows are broken.
-pub mod Invitations
-pub mod SavedMatches
 pub mod Broken
+pub mod Greetings
+pub mod Invitations
 pub mod Matches
 pub mod Rated
 pub mod Rematch
-pub mod Greetings
+pub mod SavedMatches
+pub mod ServerWords

@@ -1,7 +1,7 @@
 -- Matches that have ended, as lines of a file (the project's own; docs/FORMATS.md).
-use Rattle.std.specs.Prelude.{◌++◌, ◌∷◌, ◌||◌, ℕ, Bool, List, [], Option, Some, None, codes, cond, decimal, nat_le}
+use Rattle.std.specs.Prelude.{◌≡◌, ◌++◌, ◌∷◌, ◌||◌, ℕ, Bool, List, [], Option, Some, None, codes, cond, decimal, nat_le}
 use Rattle.fibs_fields.specs.Split.{before, after}
-use Rattle.fibs_fields.specs.Rating.{printed_rating}
+use Rattle.fibs_fields.specs.Rating.{printed_rating, rating_value}
 use Rattle.fibs_wording.specs.declared.matches.Score.{Score}
 
 -- what stands for what is not known
@@ -45,6 +45,24 @@ after_tab (Some rest) = rest
 -- the second field of a line
 abbrev pub opponent_in : List ℕ → List ℕ
 opponent_in line = before 9 (after_tab (after 9 line))
+
+-- what follows the first field of some
+abbrev pub later : List ℕ → List ℕ
+later fields = after_tab (after 9 fields)
+
+-- what a field says of a rating: that it is not known, or its hundredths
+abbrev pub IsRatingField : List ℕ → Option ℕ → Type 0
+IsRatingField field None = field ≡ unknown
+IsRatingField field (Some rating) = rating_value field ≡ rating
+
+-- the last five fields of a line say a score, the ratings before and after the match, and the experience
+pub record SaysPlayed (fields : List ℕ) (s : Score) (old new experience : Option ℕ) : Type 0 where
+  pub match_length : before 9 fields ≡ decimal s.length
+  pub own_points : before 45 (before 9 (later fields)) ≡ decimal s.own
+  pub other_points : after 45 (before 9 (later fields)) ≡ Some (decimal s.other)
+  pub old_rating : IsRatingField (before 9 (later (later fields))) old
+  pub new_rating : IsRatingField (before 9 (later (later (later fields)))) new
+  pub points : later (later (later (later fields))) ≡ experience_field experience
 
 -- the points of a match are those of one that is over: a player has the points of its length
 abbrev pub is_won : Score → Bool

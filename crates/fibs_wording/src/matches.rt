@@ -1,7 +1,8 @@
 //! Matches that have ended: the score with which one did, a line of a file for each, and how they are listed.
-ghost use Rattle.std.specs.Prelude.{◌≡◌, ◌↔◌, ◌⊎◌, ◌++◌, [], IfSome, IsTrue, OnOk};
+ghost use Rattle.std.specs.Prelude.{◌≡◌, ◌<◌, ◌↔◌, ◌⊎◌, ◌++◌, [], IfSome, IsTrue, OnOk, Some, nat_lt};
+ghost use Rattle.fibs_fields.specs.Rating.{hundredths_of};
 ghost use Rattle.fibs_fields.specs.Split.{after, before};
-ghost use Rattle.fibs_wording.specs.Matches.{after_tab, experience_field, final_score, is_won, match_line, opponent_in, played_fields, rated_fields, rating_field, score_field};
+ghost use Rattle.fibs_wording.specs.Matches.{IsRatingField, SaysPlayed, after_tab, experience_field, final_score, is_won, later, match_line, opponent_in, played_fields, rated_fields, rating_field, score_field};
 
 use crate::environment::shown::pad_from;
 use crate::rated::append_change;
@@ -251,7 +252,10 @@ fn is_date(field: &[u8]) -> bool {
 }
 
 /// The rating that a field says; None inside if it is not known.
-fn rating_in(field: &[u8]) -> Option<Option<u32>> {
+#[tactic(auto, unfolding(fibs_fields::specs::Decimal::decimal_up_to))]
+fn rating_in(field: &[u8]) -> Option<Option<u32>>
+    ensures { IfSome result (λ rating. IsRatingField field.now rating) }
+{
     if field == UNKNOWN {
         return Some(None);
     }
@@ -267,7 +271,10 @@ fn rating_in(field: &[u8]) -> Option<Option<u32>> {
 }
 
 /// The hundredths that two digits say.
-fn hundredths_in(digits: &[u8]) -> Option<u64> {
+fn hundredths_in(digits: &[u8]) -> Option<u64>
+    ensures value { IfSome result (λ n. n ≡ hundredths_of (Some digits.now)) }
+    ensures few { IfSome result (λ n. n < 100) }
+{
     match digits {
         [tenths, last] if tenths.is_ascii_digit() && last.is_ascii_digit() => {
             Some(10 * u64::from(*tenths - b'0') + u64::from(*last - b'0'))
@@ -277,7 +284,9 @@ fn hundredths_in(digits: &[u8]) -> Option<u64> {
 }
 
 /// The experience that a field says; None inside if it is not known.
-fn experience_in(field: &[u8]) -> Option<Option<u64>> {
+fn experience_in(field: &[u8]) -> Option<Option<u64>>
+    ensures { IfSome result (λ points. field.now ≡ experience_field points) }
+{
     if field == UNKNOWN {
         return Some(None);
     }
@@ -288,7 +297,9 @@ fn experience_in(field: &[u8]) -> Option<Option<u64>> {
 type Played = (Score, Option<u32>, Option<u32>, Option<u64>);
 
 /// What the last five fields of a line say.
-fn read_played(fields: &[u8]) -> Option<Played> {
+fn read_played(fields: &[u8]) -> Option<Played>
+    ensures { IfSome result (λ played. SaysPlayed fields.now played.0 played.1 played.2 played.3) }
+{
     let (length, rest) = next_field(fields);
     let (points, rest) = next_field(rest);
     let (own, other) = split(points, b'-');
@@ -309,7 +320,10 @@ fn read_played(fields: &[u8]) -> Option<Played> {
 
 /// The match that a line says. None if it is not a whole one.
 pub fn read_match(line: &[u8]) -> Option<PlayedMatch<'_>>
-    ensures { IfSome result (λ played. played.opponent.now ≡ opponent_in line.now) }
+    ensures date { IfSome result (λ played. played.date.now ≡ before 9 line.now) }
+    ensures opponent { IfSome result (λ played. played.opponent.now ≡ opponent_in line.now) }
+    ensures played { IfSome result (λ played. SaysPlayed (later (later line.now))
+        played.score played.before played.after played.experience) }
 {
     let opponent = Name::new(opponent_field(line))?;
     let (date, rest) = next_field(line);
@@ -337,7 +351,9 @@ impl PlayedMatch<'_> {
     }
 
     /// Whether the user has won it.
-    fn is_won(&self) -> bool {
+    fn is_won(&self) -> bool
+        ensures { result ≡ nat_lt self.now.score.other self.now.score.own }
+    {
         self.score.other < self.score.own
     }
 

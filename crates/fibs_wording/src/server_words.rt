@@ -1,4 +1,6 @@
 //! The commands of a server that the client does not have.
+ghost use Rattle.std.specs.Prelude.{◌≡◌};
+ghost use Rattle.fibs_wording.specs.ServerWords.{is_leaving_word, is_passed, is_passed_word};
 
 use fibs_fields::split::split;
 
@@ -56,7 +58,7 @@ static SERVER_WORDS: [&[u8]; 48] = [
 
 /// Their first words that a terminal sends as they are typed: to watch others, to leave a match, to say that one is
 /// away.
-static PASSED_WORDS: [&[u8]; 8] = [
+const PASSED_WORDS: [&[u8]; 8] = [
     b"away",
     b"back",
     b"leave",
@@ -71,21 +73,18 @@ static PASSED_WORDS: [&[u8]; 8] = [
 const SHOW_SAVED: &[u8] = b"show saved";
 
 /// Words for leaving, none of which the client has.
-static LEAVING_WORDS: [&[u8]; 6] = [b"adios", b"ciao", b"end", b"exit", b"logout", b"q"];
+const LEAVING_WORDS: [&[u8]; 6] = [b"adios", b"ciao", b"end", b"exit", b"logout", b"q"];
 
 /// The first words of the commands of a server.
 fn server_words() -> &'static [&'static [u8]] {
     &SERVER_WORDS
 }
 
-/// The first words of the commands that a terminal sends as they are typed.
-fn passed_words() -> &'static [&'static [u8]] {
-    &PASSED_WORDS
-}
-
-/// The words for leaving.
-fn leaving_words() -> &'static [&'static [u8]] {
-    &LEAVING_WORDS
+/// Whether a command that a terminal sends as it is typed begins with a word.
+fn is_passed_word(word: &[u8]) -> bool
+    ensures { result ≡ is_passed_word word.now }
+{
+    PASSED_WORDS.contains(&word)
 }
 
 /// Whether a command of a server begins with a word, which goes to it as it is.
@@ -94,11 +93,15 @@ pub fn is_server_word(word: &[u8]) -> bool {
 }
 
 /// Whether a line is a command of a server that a terminal sends as it is typed, without `send`.
-pub fn is_passed(line: &[u8]) -> bool {
-    line == SHOW_SAVED || passed_words().contains(&split(line, b' ').0)
+pub fn is_passed(line: &[u8]) -> bool
+    ensures { result ≡ is_passed line.now }
+{
+    line == SHOW_SAVED || is_passed_word(split(line, b' ').0)
 }
 
 /// Whether a word is one by which people leave.
-pub fn is_leaving_word(word: &[u8]) -> bool {
-    leaving_words().contains(&word)
+pub fn is_leaving_word(word: &[u8]) -> bool
+    ensures { result ≡ is_leaving_word word.now }
+{
+    LEAVING_WORDS.contains(&word)
 }
