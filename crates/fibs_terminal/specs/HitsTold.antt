@@ -60,3 +60,8 @@ is_more_on_bar before after =
 -- something is told of two boards: they are of one game, and a side has more checkers on the bar
 abbrev pub tells_hits : BoardFields → BoardFields → Bool
 tells_hits before after = not (begins_anew before after) && is_more_on_bar before after
+
+-- something was told
+abbrev pub has_told : ToldHits → Bool
+has_told told.Nothing = false
+has_told hits = true

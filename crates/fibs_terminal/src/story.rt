@@ -1,7 +1,7 @@
 //! The turns of a game, as far as boards show them.
 ghost use Rattle.std.specs.Prelude.{◌≡◌, IfNone, IfOk, IfSome, OnOk, Some, false, option_map};
 ghost use Rattle.fibs_position.specs.GameOf.{game_of};
-ghost use Rattle.fibs_terminal.specs.HitsTold.{TellsHits, tells_hits};
+ghost use Rattle.fibs_terminal.specs.HitsTold.{TellsHits, has_told, tells_hits};
 ghost use Rattle.fibs_terminal.specs.Tables.{IsNewStory};
 
 mod hits;
@@ -98,6 +98,8 @@ impl Story {
             (game_of before) (game_of game.now) text.old.items text.new.items)) }
         ensures silent { IfSome self.now.last (λ before. tells_hits (game_of before) (game_of game.now) ≡ false
             → OnOk result (text.new.items ≡ text.old.items)) }
+        ensures some { IfSome self.now.last (λ before. IfOk result (λ hits.
+            has_told hits ≡ tells_hits (game_of before) (game_of game.now))) }
     {
         append_hits_since(alloc, &self.last, game, numbers, text)
     }

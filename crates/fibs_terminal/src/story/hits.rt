@@ -1,8 +1,8 @@
 //! Which checkers were hit between two boards of a game, in a row of words.
-ghost use Rattle.std.specs.Prelude.{◌≡◌, ◌++◌, OnOk, IfOk, IfNone, IfSome, false, nat_lt};
+ghost use Rattle.std.specs.Prelude.{◌≡◌, ◌++◌, OnOk, IfOk, IfNone, IfSome, true, false, nat_lt};
 ghost use Rattle.fibs_fields.specs.StoredBoard.{fields_of};
 ghost use Rattle.fibs_position.specs.GameOf.{game_of};
-ghost use Rattle.fibs_terminal.specs.HitsTold.{TellsHits, other_bar, other_row, own_bar, own_hit, own_row, tells_hits};
+ghost use Rattle.fibs_terminal.specs.HitsTold.{TellsHits, has_told, other_bar, other_row, own_bar, own_hit, own_row, tells_hits};
 ghost use Rattle.fibs_terminal.specs.Turns.{seen_by};
 
 use crate::story::turn::{PlayedTurn, begins_anew, turn_of};
@@ -97,8 +97,9 @@ fn append_of_turn(
 ) -> Result<ToldHits, AllocError>
     requires before { game_of turn.now.before ≡ seen_by turn.now.roller (game_of before.now) }
     requires after { fields_of turn.now.after ≡ seen_by turn.now.roller (game_of after.now) }
-    ensures { IfOk result (λ hits. TellsHits hits numbers (game_of before.now) (game_of after.now)
+    ensures told { IfOk result (λ hits. TellsHits hits numbers (game_of before.now) (game_of after.now)
         text.old.items text.new.items) }
+    ensures some { IfOk result (λ hits. has_told hits ≡ true) }
 {
     let known = played(alloc, &turn.before, &turn.after)?;
     match known {
@@ -131,8 +132,9 @@ fn append_between(
     numbers: Numbers,
     text: &mut Vec<u8>,
 ) -> Result<ToldHits, AllocError>
-    ensures { IfOk result (λ hits. TellsHits hits numbers (game_of before.now) (game_of after.now)
+    ensures told { IfOk result (λ hits. TellsHits hits numbers (game_of before.now) (game_of after.now)
         text.old.items text.new.items) }
+    ensures some { IfOk result (λ hits. has_told hits ≡ true) }
 {
     match turn_of(before, after) {
         None => {
@@ -155,6 +157,7 @@ fn append_if_hit(
         text.old.items text.new.items) }
     ensures silent { tells_hits (game_of before.now) (game_of after.now) ≡ false
         → OnOk result (text.new.items ≡ text.old.items) }
+    ensures some { IfOk result (λ hits. has_told hits ≡ tells_hits (game_of before.now) (game_of after.now)) }
 {
     if !tells_hits(before, after) {
         return Ok(ToldHits::Nothing);
@@ -178,6 +181,8 @@ pub(crate) fn append_hits_since(
         (game_of before) (game_of after.now) text.old.items text.new.items)) }
     ensures silent { IfSome last.now (λ before. tells_hits (game_of before) (game_of after.now) ≡ false
         → OnOk result (text.new.items ≡ text.old.items)) }
+    ensures some { IfSome last.now (λ before. IfOk result (λ hits.
+        has_told hits ≡ tells_hits (game_of before) (game_of after.now))) }
 {
     match last {
         None => Ok(ToldHits::Nothing),
