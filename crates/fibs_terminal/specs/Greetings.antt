@@ -1,6 +1,11 @@
 -- What answers the commands that a client sends by itself at a login (the texts of FIBS; else the project's own).
-use Rattle.std.specs.Prelude.{◌&&◌, ◌||◌, ℕ, Bool, false, not, List, codes}
+use Rattle.std.specs.Prelude.{◌≡◌, ◌++◌, ◌∷◌, ◌&&◌, ◌||◌, ℕ, Bool, true, false, not, List, [], codes, if◌then◌else◌}
 use Rattle.std.specs.Str.{bytes_eq}
+use Rattle.fibs_commands.specs.FirstCommands.{autoboard_text, board_text, moreboards_text}
+use Rattle.fibs_messages.specs.Message.{message_of}
+use Rattle.fibs_messages.specs.declared.message.Message.TheVariants.{OwnInfo as TheOwnInfo}
+use Rattle.fibs_messages.specs.declared.message.OwnInfo.{OwnInfo}
+use Rattle.fibs_session.specs.Fibs.{initial_commands}
 use Rattle.fibs_terminal.specs.declared.listening.greeting.Greeting.{Greeting}
 
 -- nothing was sent
@@ -45,3 +50,41 @@ is_answered g said = (g.style && tells_style said)
 -- the row that ends the login is due: the players are listed, `board` is answered, and it was not said
 abbrev pub is_due : Greeting → Bool
 is_due g = g.is_listed && (not g.board && not g.is_said)
+
+-- the commands that are not answered of those that the client sends at the first message 2
+abbrev pub awaited : Greeting → List (List ℕ)
+awaited g =
+    (if g.autoboard then autoboard_text ∷ [] else [])
+    ++ (if g.moreboards then moreboards_text ∷ [] else [])
+    ++ (if g.board then board_text ∷ [] else [])
+
+-- nothing but what is asked for has changed
+abbrev pub IsAsking : Greeting → Greeting → Type 0
+IsAsking g next = next ≡ record g {
+  is_informed = true;
+  autoboard = next.autoboard;
+  moreboards = next.moreboards;
+  board = next.board;
+  plays_itself = next.plays_itself;
+}
+
+-- by the first message 2 the answers are awaited of all that the client sends then, and of nothing else; a later one
+-- changes nothing
+pub record Informs (g : Greeting) (info : OwnInfo) (next : Greeting) : Type 0 where
+  pub later : g.is_informed ≡ true → next ≡ g
+  pub first : g.is_informed ≡ false → awaited next ≡ initial_commands (message_of (TheOwnInfo info))
+  pub plays : g.is_informed ≡ false → next.plays_itself ≡ (info.automove || info.greedy)
+  pub rest : g.is_informed ≡ false → IsAsking g next
+
+-- no answer is awaited that was not awaited before, and nothing but what is awaited changes
+pub record IsHeard (g : Greeting) (next : Greeting) : Type 0 where
+  pub style : next.style ≡ true → g.style ≡ true
+  pub autoboard : next.autoboard ≡ true → g.autoboard ≡ true
+  pub moreboards : next.moreboards ≡ true → g.moreboards ≡ true
+  pub board : next.board ≡ true → g.board ≡ true
+  pub rest : next ≡ record g {
+    style = next.style;
+    autoboard = next.autoboard;
+    moreboards = next.moreboards;
+    board = next.board;
+  }

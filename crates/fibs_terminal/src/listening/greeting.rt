@@ -1,9 +1,10 @@
 //! The login: what answers the commands that the client sends by itself, and the row that ends it, which says who is
 //! there and what to type next.
-ghost use Rattle.std.specs.Prelude.{◌≡◌};
-ghost use Rattle.fibs_terminal.specs.Greetings.{is_answered, is_due, new_greeting, says_not_playing, tells_autoboard, tells_moreboards, tells_style};
+ghost use Rattle.std.specs.Prelude.{◌≡◌, ◌&&◌, ◌||◌, not, true, false};
+ghost use Rattle.fibs_terminal.specs.Greetings.{Informs, IsHeard, is_answered, is_due, new_greeting, says_not_playing, tells_autoboard, tells_moreboards, tells_style};
 
 use fibs_messages::OwnInfo;
+use fibs_messages::laws::flags_are_the_fields;
 
 /// What of a login has not come yet.
 #[derive(Clone, Copy)]
@@ -75,14 +76,19 @@ impl Greeting {
     }
 
     /// Message 1 has come, by the first of which the client asks for boards of style 3.
-    pub fn hear_welcome(&mut self) {
+    pub fn hear_welcome(&mut self)
+        ensures { self.new ≡ record self.old { style = self.old.style || not self.old.is_informed } }
+    {
         if !self.is_informed {
             self.style = true;
         }
     }
 
     /// Message 2 has come, by the first of which the client asks for boards, and for the board.
-    pub fn hear_own_info(&mut self, info: &OwnInfo<'_>) {
+    pub fn hear_own_info(&mut self, info: &OwnInfo<'_>)
+        ensures { Informs self.old info.now self.new }
+    {
+        flags_are_the_fields();
         if !self.is_informed {
             self.is_informed = true;
             self.autoboard = !info.autoboard;
@@ -111,7 +117,14 @@ impl Greeting {
 
     /// Takes note of a text: what it answers is no longer to be answered. Any other text, once the players are listed
     /// and the others are answered, is the answer to `board`, whatever it says.
-    pub fn hear_text(&mut self, said: &[u8]) {
+    pub fn hear_text(&mut self, said: &[u8])
+        ensures heard { IsHeard self.old self.new }
+        ensures style { tells_style said.now ≡ true → self.new.style ≡ false }
+        ensures autoboard { tells_autoboard said.now ≡ true → (self.old.style && tells_style said.now) ≡ false →
+            self.new.autoboard ≡ false }
+        ensures board { self.new.board ≡ false → self.old.board ≡ true →
+            (says_not_playing said.now || (self.old.is_listed && not self.old.style)) ≡ true }
+    {
         if self.style && tells_style(said) {
             self.style = false;
         } else if self.autoboard && tells_autoboard(said) {
@@ -124,12 +137,16 @@ impl Greeting {
     }
 
     /// A board has come.
-    pub fn hear_board(&mut self) {
+    pub fn hear_board(&mut self)
+        ensures { self.new ≡ record self.old { board = false } }
+    {
         self.board = false;
     }
 
     /// The list of players that comes at the login has ended.
-    pub fn hear_listed(&mut self) {
+    pub fn hear_listed(&mut self)
+        ensures { self.new ≡ record self.old { is_listed = true } }
+    {
         self.is_listed = true;
     }
 
@@ -141,17 +158,23 @@ impl Greeting {
     }
 
     /// Whether the list of players that comes at the login is still to come.
-    pub fn awaits_list(&self) -> bool {
+    pub fn awaits_list(&self) -> bool
+        ensures { result ≡ (self.now.is_informed && not self.now.is_listed) }
+    {
         self.is_informed && !self.is_listed
     }
 
     /// Whether the server plays for the user by itself.
-    pub fn plays_itself(&self) -> bool {
+    pub fn plays_itself(&self) -> bool
+        ensures { result ≡ self.now.plays_itself }
+    {
         self.plays_itself
     }
 
     /// The row was said.
-    pub fn settle(&mut self) {
+    pub fn settle(&mut self)
+        ensures { self.new ≡ record self.old { is_said = true } }
+    {
         self.is_said = true;
     }
 }
