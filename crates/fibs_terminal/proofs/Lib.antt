@@ -1,5 +1,6 @@
 -- Why what the eye sees tells a board, what was written is kept, `go` sends the move that `try` showed, a decision goes
 -- past the client only on the server's word, and who would leave a match is asked once.
+pub mod AgainLemmas
 pub mod GrownLemmas
 pub mod AboveLemmas
 pub mod DrawingLemmas

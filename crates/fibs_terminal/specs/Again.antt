@@ -1,5 +1,10 @@
 -- When a connection that has ended is opened again (the project's own).
-use Rattle.std.specs.Prelude.{◌&&◌, ◌||◌, ◌*◌, ℕ, Bool, None, true, false, cond, not, min, max}
+use Rattle.std.specs.Prelude.{◌≡◌, ◌&&◌, ◌||◌, ◌+◌, ◌*◌, ◌^◌, ◌∷◌, ℕ, zero, suc, List, [], codes, Bool, None, IfSome, true, false, cond, is_some, not, min, max}
+use Rattle.std.specs.Duration.{as_nanos, max_nanos}
+use Rattle.std.specs.Str.{bytes_eq}
+use Rattle.std.specs.declared.time.Duration.{Duration}
+use Rattle.fibs_fields.specs.Split.{before}
+use Rattle.fibs_wording.specs.ServerWords.{is_leaving_word}
 use Rattle.fibs_terminal.specs.declared.reconnecting.Reconnecting.{Reconnecting}
 
 -- how many seconds pass before the next try, after so many before the last one: 1, 2, 4 .. and 60 at most
@@ -43,3 +48,73 @@ after_asked is_offline r = record r {
 -- the user asks for it no longer: no try comes
 abbrev pub after_stay : Reconnecting → Reconnecting
 after_stay r = record r { is_on = false; tries = false; wait = 0; due = None }
+
+-- the first word of a line takes leave of the server: its own words, and those by which people leave
+abbrev pub takes_leave : List ℕ → Bool
+takes_leave line = bytes_eq (before 32 line) (codes "bye") || (bytes_eq (before 32 line) (codes "quit")
+    || is_leaving_word (before 32 line))
+
+-- the wait before the next try is measured from now on, unless it was before
+abbrev pub IsDue : Reconnecting → Duration → Reconnecting → Type 0
+IsDue r now next = (next ≡ record r { due = next.due })
+    × ((is_some next.due ≡ (r.tries || is_some r.due))
+    × (r.tries ≡ true → r.due ≡ None
+    → IfSome next.due (λ due. as_nanos due ≡ min (as_nanos now + r.wait * 1_000_000_000) max_nanos)))
+
+-- no connection can be made so many times in a row, and the user asks for nothing
+abbrev pub failed : ℕ → Reconnecting → Reconnecting
+failed zero r = r
+failed (suc n) r = after_failed (failed n r)
+
+-- the waits after a connection that had lasted, and that the user had asked to be opened again: 1, 2, 4 .. seconds, and
+-- 60 at most, as often as no connection can be made
+abbrev pub WaitsDouble : Type 0
+WaitsDouble = (r : Reconnecting) (n : ℕ) → goes_on r ≡ true
+    → ((failed n (after_lost true r)).tries ≡ true) × ((failed n (after_lost true r)).wait ≡ min (2 ^ n) 60)
+
+-- what may happen between two words of the user: a connection ends, can't be made, or is made; the server greets the
+-- user; he takes leave of the server
+pub data Happening : Type 0 where
+  lost : Bool → Happening
+  unmade : Happening
+  made : Happening
+  greeted : Happening
+  left : Happening
+
+-- what is kept after it
+abbrev pub after : Happening → Reconnecting → Reconnecting
+after (lost lasted) r = after_lost lasted r
+after unmade r = after_failed r
+after made r = after_opened r
+after greeted r = record r { is_greeted = true }
+after left r = record r { leaves = true }
+
+-- and after many of them, the first one last in the list
+abbrev pub after_all : List Happening → Reconnecting → Reconnecting
+after_all [] r = r
+after_all (h ∷ hs) r = after h (after_all hs r)
+
+-- after `stay` no connection is opened again, whatever happens
+abbrev pub StaysClosed : Type 0
+StaysClosed = (r : Reconnecting) (hs : List Happening) → (after_all hs (after_stay r)).tries ≡ false
+
+-- nor is one of which the user has taken leave
+abbrev pub EndsByLeave : Type 0
+EndsByLeave = (r : Reconnecting) (lasted : Bool) → r.leaves ≡ true → (after_lost lasted r).tries ≡ false
+
+-- nor one on which the server has not greeted the user, if it had not on the one before it either
+abbrev pub EndsByTwo : Type 0
+EndsByTwo = (r : Reconnecting) (first second : Bool) → goes_on r ≡ true → r.is_greeted ≡ false
+    → (after_lost second (after_opened (after_lost first r))).tries ≡ false
+
+-- nor does a connection that is opened by hand begin a row of tries: without the wish none comes
+abbrev pub TriesIfAsked : Type 0
+TriesIfAsked = (r : Reconnecting) (lasted : Bool) → r.is_on ≡ false → (after_lost lasted r).tries ≡ false
+
+-- when a lost connection is opened again
+pub record OpensAgain : Type 0 where
+  pub waits : WaitsDouble
+  pub stays : StaysClosed
+  pub leave : EndsByLeave
+  pub two : EndsByTwo
+  pub asked : TriesIfAsked

@@ -9,6 +9,7 @@ mod configuring;
 pub mod drawing;
 mod fixing;
 mod going_on;
+pub mod laws;
 mod leaving;
 mod listening;
 mod looking;

@@ -1,7 +1,7 @@
 //! A connection that has ended is opened again, if the user asks for it: when the next try comes. The program then
 //! types `open` for him, and nothing else.
-ghost use Rattle.std.specs.Prelude.{◌≡◌, None, false, true};
-ghost use Rattle.fibs_terminal.specs.Again.{after_asked, after_failed, after_lost, after_opened, after_stay, goes_on, next_wait};
+ghost use Rattle.std.specs.Prelude.{◌≡◌, ◌||◌, None, Some, cond, false, true};
+ghost use Rattle.fibs_terminal.specs.Again.{IsDue, after_asked, after_failed, after_lost, after_opened, after_stay, goes_on, next_wait, takes_leave};
 
 use crate::screen::{Moment, Screen};
 use crate::terminal::Terminal;
@@ -80,7 +80,9 @@ impl Reconnecting {
     }
 
     /// After how many seconds a connection is opened again; None if it is not.
-    fn seconds(&self) -> Option<u64> {
+    fn seconds(&self) -> Option<u64>
+        ensures { result ≡ cond self.now.tries (Some self.now.wait) None }
+    {
         if self.tries { Some(self.wait) } else { None }
     }
 
@@ -114,7 +116,9 @@ impl Reconnecting {
     }
 
     /// The user takes leave of the server by a line that was sent.
-    pub fn hear_sent(&mut self, line: &[u8]) {
+    pub fn hear_sent(&mut self, line: &[u8])
+        ensures { self.new ≡ record self.old { leaves = self.old.leaves || takes_leave line.now } }
+    {
         let word = split(line, b' ').0;
         if word == b"bye".as_slice() || word == b"quit".as_slice() || is_leaving_word(word) {
             self.leaves = true;
@@ -167,7 +171,9 @@ impl Reconnecting {
     }
 
     /// The user may type now: from here on the wait is measured. When it ends is said there, if it is asked for.
-    pub fn rest(&mut self, now: Duration, said: Option<&Cell<Option<Duration>>>) {
+    pub fn rest(&mut self, now: Duration, said: Option<&Cell<Option<Duration>>>)
+        ensures { IsDue self.old now self.new }
+    {
         if self.tries && self.due.is_none() {
             self.due = Some(now.saturating_add(Duration::from_secs(self.wait)));
         }
