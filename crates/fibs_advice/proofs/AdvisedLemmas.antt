@@ -27,7 +27,8 @@ goes t standing way sent d is kept may = kept (subst (MayGo t standing) (sym is)
 
 -- so what may go as it is in a phase is advised
 pub sends_ways : (t : Talk) (standing : Standing) (p : Phase) (doubles : Bool)
-    (first second send other : Option Decision) → AreWays p doubles first second → (MayGo t standing first → send ≡ first)
+    (first second send other : Option Decision) → AreWays p doubles first second
+    → (MayGo t standing first → send ≡ first)
     → (MayGo t standing second → other ≡ second) → SendsWays t standing p doubles send other
 sends_ways t standing P.RollOrDouble true first second send other ways kept both =
     (goes t standing first send _ ways.0 kept, λ yes may. goes t standing second other _ ways.1 both may)

@@ -3,4 +3,4 @@ use Rattle.fibs_terminal.proofs.screen.Screen.rest.Goals as goal
 
 pub returns : goal.returns
 returns c = rests c.args.client.now c.args.self.now.page.settings c.args.self.now.memory _ _ _ _ c.in_ok-advice.advice
-    c.in_ok-show_sent_below.ensures c.in_ok-say_rematch.ensures c.in_ok-advice.ensures c.in_ok-say.ensures
+    c.in_ok-show_sent_below.ensures c.in_ok-say_rematch.ensures c.in_ok-advice.ensures.advises c.in_ok-say.ensures
