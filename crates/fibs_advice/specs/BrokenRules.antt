@@ -1,7 +1,11 @@
 -- Which rule a move breaks, as a terminal names it (rules of backgammon).
-use Rattle.std.specs.Prelude.{◌-◌, ◌==◌, ◌&&◌, ◌||◌, ℕ, nat_lt, nat_le, Bool, not, true, slice_index}
+use Rattle.std.specs.Prelude.{◌≡◌, ◌++◌, ◌+◌, ◌-◌, ◌<◌, ◌≤◌, ◌==◌, ◌&&◌, ◌||◌, ℕ, List, codes, count_by, decimal, nat_lt, nat_le, Bool, not, false, slice_index, if◌then◌else◌}
+use Rattle.fibs_position.specs.DirectionOf.{line_place}
+use Rattle.fibs_position.specs.declared.direction.Direction.{Direction}
 use Rattle.fibs_rules.specs.Checkers.{Checkers}
 use Rattle.fibs_rules.specs.Hop.{Hop, hop_of}
+use Rattle.fibs_rules.specs.Runs.{IsMost, Standing}
+use Rattle.fibs_rules.specs.declared.step.Step.{Step}
 use Rattle.fibs_advice.specs.declared.rules.BrokenRule.{BrokenRule}
 use Rattle.fibs_advice.specs.declared.rules.BrokenRule.TheVariants as B
 
@@ -17,16 +21,77 @@ distance step = step.source - step.target
 abbrev pub is_played_by : ℕ → Hop → Bool
 is_played_by die step = (distance step == die) || ((step.target == 0) && nat_lt (distance step) die)
 
--- a rule that is named of a step holds of it on the board, with these dice
-abbrev pub holds : Checkers → ℕ → ℕ → Hop → BrokenRule → Bool
-holds p first second step B.Bar = not (step.source == 25)
-holds p first second step (B.Empty place) = place == step.source
-holds p first second step (B.Held place) = (place == step.target) && is_held p place
-holds p first second step B.Outside = step.target == 0
-holds p first second step B.Behind =
+-- the player's checkers on a place after the first steps of a move: those on the board, and who came, without who left
+abbrev pub own_after : Checkers → List Step → ℕ → ℕ
+own_after c steps place = slice_index c.own place + count_by (λ step. (hop_of step).target == place) steps
+    - count_by (λ step. (hop_of step).source == place) steps
+
+-- a checker of the player is farther back than a place then
+pub record IsBehind (c : Checkers) (steps : List Step) (place : ℕ) : Type 0 where
+  pub behind : ℕ
+  pub farther : place < behind
+  pub on_board : behind ≤ 25
+  pub is_there : 0 < own_after c steps behind
+
+-- a rule that is named of a step holds of it after the steps before it, with these dice
+abbrev pub holds : Checkers → ℕ → ℕ → List Step → Hop → BrokenRule → Bool
+holds c first second before step B.Bar = not (step.source == 25) && nat_lt 0 (own_after c before 25)
+holds c first second before step (B.Empty place) = (place == step.source) && (own_after c before place == 0)
+holds c first second before step (B.Held place) = (place == step.target) && is_held c place
+holds c first second before step B.Outside = step.target == 0
+holds c first second before step B.Behind =
     (step.target == 0) && (not (distance step == first) && not (distance step == second))
-holds p first second step (B.Distance other) =
+holds c first second before step (B.Distance other) =
     ((hop_of other).source == step.source)
     && (not (is_played_by first step) && not (is_played_by second step))
-holds p first second step (B.MoreDice most) = true
-holds p first second step B.Larger = true
+holds c first second before step (B.MoreDice most) = false
+holds c first second before step B.Larger = false
+
+-- if a rule of bearing off is named, a checker is farther back: outside of the home, or behind the one that goes off
+abbrev pub IsBack : Checkers → List Step → Hop → BrokenRule → Type 0
+IsBack c before step B.Outside = IsBehind c before 6
+IsBack c before step B.Behind = IsBehind c before step.source
+IsBack c before step rule = Unit {0}
+
+-- a rule of the dice that is named of a whole move holds of it: more dice can be played, so many, than it has steps; or
+-- it has one step
+abbrev pub IsOfDice : Standing → ℕ → BrokenRule → Type 0
+IsOfDice standing steps (B.MoreDice most) = IsMost standing most × (steps < most)
+IsOfDice standing steps B.Larger = steps ≡ 1
+IsOfDice standing steps rule = Unit {0}
+
+-- a place by the numbers by which the player goes this way
+abbrev pub place_said : Direction → ℕ → List ℕ
+place_said way place =
+    if place == 0 then codes "off" else if nat_le 25 place then codes "the bar" else decimal (line_place way place)
+
+-- words, a place and a full stop
+abbrev pub of_place : List ℕ → Direction → ℕ → List ℕ
+of_place words way place = words ++ (place_said way place ++ codes ".")
+
+-- words, a number and a full stop
+abbrev pub of_number : List ℕ → ℕ → List ℕ
+of_number words number = words ++ (decimal number ++ codes ".")
+
+-- words, and from where to where a step goes
+abbrev pub of_way : List ℕ → Direction → ℕ → ℕ → List ℕ
+of_way words way source target = words ++ (place_said way source ++ of_place (codes " to ") way target)
+
+-- how many dice must be played
+abbrev pub more_dice_said : ℕ → List ℕ
+more_dice_said most =
+    if most == 2 then codes "Both dice must be played." else
+    if most == 1 then codes "A die must be played." else
+    of_number (codes "As many dice as can be must be played: ") most
+
+-- how a rule is said that is broken, by the numbers by which the player goes this way
+abbrev pub rule_said : Direction → BrokenRule → List ℕ
+rule_said way B.Bar = codes "A checker on the bar enters first."
+rule_said way (B.Empty place) = of_place (codes "You have no checker on ") way place
+rule_said way (B.Held place) = of_place (codes "Your opponent holds ") way place
+rule_said way B.Outside = codes "No checker goes off before all are home."
+rule_said way B.Behind = codes "A checker farther back goes first."
+rule_said way (B.Distance step) =
+    of_way (codes "No die plays from ") way (hop_of step).source (hop_of step).target
+rule_said way (B.MoreDice most) = more_dice_said most
+rule_said way B.Larger = codes "The larger die must be played."

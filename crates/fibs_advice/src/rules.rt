@@ -1,8 +1,9 @@
 //! Which rule a move breaks.
-ghost use Rattle.std.specs.Prelude.{◌≡◌, ◌≤◌, true, IfSome};
+ghost use Rattle.std.specs.Prelude.{◌≡◌, ◌≤◌, ◌++◌, length, true, IfSome, IsTrue, OnOk};
 ghost use Rattle.fibs_position.specs.PositionValue.{position_value};
 ghost use Rattle.fibs_rules.specs.Hop.{hop_of};
-ghost use Rattle.fibs_advice.specs.BrokenRules.{distance, holds, is_held, is_played_by};
+ghost use Rattle.fibs_rules.specs.PlayValue.{hops_of};
+ghost use Rattle.fibs_advice.specs.BrokenRules.{IsBack, IsBehind, IsOfDice, distance, holds, is_held, is_played_by, more_dice_said, of_number, of_place, of_way, own_after, place_said, rule_said};
 
 use fibs_commands::BAR;
 use fibs_fields::boards::fields::{FIRST_DIE, SECOND_DIE};
@@ -35,23 +36,21 @@ enum BrokenRule {
 }
 
 /// How many of the player's checkers are on a place after the first steps of a move.
-fn checkers_on(position: &Position, steps: &[Step], place: u8) -> u8
-    requires { place ≤ 25 }
+fn checkers_on(position: &Position, steps: &[Step], place: u8) -> usize
+    requires place { place ≤ 25 }
+    requires few { length steps.now ≤ 4 }
+    ensures { result ≡ own_after (position_value position.now).standing.checkers steps.now place }
 {
-    let mut count = position.own(place);
-    for step in steps {
-        if step.target() == place {
-            count = count.saturating_add(1);
-        }
-        if step.source() == place {
-            count = count.saturating_sub(1);
-        }
-    }
-    count
+    let came = steps.iter().filter(|step| step.target() == place).count();
+    let left = steps.iter().filter(|step| step.source() == place).count();
+    (usize::from(position.own(place)) + came).saturating_sub(left)
 }
 
 /// Whether a checker of the player is farther back than a place.
-fn is_behind(position: &Position, steps: &[Step], place: u8) -> bool {
+fn is_behind(position: &Position, steps: &[Step], place: u8) -> bool
+    requires { length steps.now ≤ 4 }
+    ensures { IsTrue result → IsBehind (position_value position.now).standing.checkers steps.now place }
+{
     for behind in 1..26 {
         if behind > place && checkers_on(position, steps, behind) > 0 {
             return true;
@@ -89,14 +88,18 @@ fn broken_by(
     before: &[Step],
     step: &Step,
 ) -> Option<BrokenRule>
-    ensures { IfSome result (λ rule. holds (position_value position.now).standing.checkers dice.0 dice.1
-        (hop_of step.now) rule ≡ true) }
+    requires { length before.now ≤ 4 }
+    ensures holds { IfSome result (λ rule. holds (position_value position.now).standing.checkers dice.0 dice.1
+        before.now (hop_of step.now) rule ≡ true) }
+    ensures back { IfSome result (λ rule. IsBack (position_value position.now).standing.checkers before.now
+        (hop_of step.now) rule) }
 {
-    if step.source() != BAR && checkers_on(position, before, BAR) > 0 {
+    let source = step.source();
+    if source != BAR && checkers_on(position, before, BAR) > 0 {
         return Some(BrokenRule::Bar);
     }
-    if checkers_on(position, before, step.source()) == 0 {
-        return Some(BrokenRule::Empty(step.source()));
+    if checkers_on(position, before, source) == 0 {
+        return Some(BrokenRule::Empty(source));
     }
     if !is_played_by(dice.0, step) && !is_played_by(dice.1, step) {
         return Some(BrokenRule::Distance(*step));
@@ -118,9 +121,12 @@ fn broken_by_bearing_off(
     before: &[Step],
     step: &Step,
 ) -> Option<BrokenRule>
-    requires { (hop_of step.now).target ≡ 0 }
-    ensures { IfSome result (λ rule. holds (position_value position.now).standing.checkers dice.0 dice.1
-        (hop_of step.now) rule ≡ true) }
+    requires off { (hop_of step.now).target ≡ 0 }
+    requires few { length before.now ≤ 4 }
+    ensures holds { IfSome result (λ rule. holds (position_value position.now).standing.checkers dice.0 dice.1
+        before.now (hop_of step.now) rule ≡ true) }
+    ensures back { IfSome result (λ rule. IsBack (position_value position.now).standing.checkers before.now
+        (hop_of step.now) rule) }
 {
     let distance = distance_of(step);
     if is_behind(position, before, LAST_OF_HOME) {
@@ -136,7 +142,10 @@ fn broken_by_bearing_off(
 }
 
 /// The rule that a move breaks, if one can be named.
-fn broken_rule(position: &Position, dice: (u8, u8), play: &Play) -> Option<BrokenRule> {
+fn broken_rule(position: &Position, dice: (u8, u8), play: &Play) -> Option<BrokenRule>
+    ensures { IfSome result (λ rule.
+        IsOfDice (position_value position.now).standing (length (hops_of play.now)) rule) }
+{
     let steps = play.steps();
     for place in 0..steps.len() {
         let found = broken_by(position, dice, &steps[..place], &steps[place]);
@@ -155,7 +164,9 @@ fn broken_rule(position: &Position, dice: (u8, u8), play: &Play) -> Option<Broke
 }
 
 /// Appends a place by the numbers by which the player goes this way.
-fn append_place(place: u8, way: Direction, text: &mut Vec<u8>) -> Result<(), AllocError> {
+fn append_place(place: u8, way: Direction, text: &mut Vec<u8>) -> Result<(), AllocError>
+    ensures { OnOk result (text.new.items ≡ text.old.items ++ place_said way place) }
+{
     if place == 0 {
         text.extend_from_slice(b"off")
     } else if place >= BAR {
@@ -171,41 +182,53 @@ fn append_of_place(
     place: u8,
     way: Direction,
     text: &mut Vec<u8>,
-) -> Result<(), AllocError> {
+) -> Result<(), AllocError>
+    ensures { OnOk result (text.new.items ≡ text.old.items ++ of_place words.now way place) }
+{
     text.extend_from_slice(words)?;
     append_place(place, way, text)?;
     text.extend_from_slice(b".")
 }
 
 /// Appends that more dice must be played.
-fn append_more_dice(most: u8, text: &mut Vec<u8>) -> Result<(), AllocError> {
+fn append_more_dice(most: u8, text: &mut Vec<u8>) -> Result<(), AllocError>
+    ensures { OnOk result (text.new.items ≡ text.old.items ++ more_dice_said most) }
+{
     match most {
         2 => text.extend_from_slice(b"Both dice must be played."),
         1 => text.extend_from_slice(b"A die must be played."),
-        _ => append_dice_to_play(most, text),
+        _ => append_of_number(b"As many dice as can be must be played: ", most, text),
     }
 }
 
-/// Appends how many dice must be played, by a number.
-fn append_dice_to_play(most: u8, text: &mut Vec<u8>) -> Result<(), AllocError> {
-    text.extend_from_slice(b"As many dice as can be must be played: ")?;
-    append_number(most, text)?;
+/// Appends words, a number and a full stop.
+fn append_of_number(words: &[u8], number: u8, text: &mut Vec<u8>) -> Result<(), AllocError>
+    ensures { OnOk result (text.new.items ≡ text.old.items ++ of_number words.now number) }
+{
+    text.extend_from_slice(words)?;
+    append_number(number, text)?;
     text.extend_from_slice(b".")
 }
 
-/// Appends that no die plays a step.
-fn append_distance(step: &Step, way: Direction, text: &mut Vec<u8>) -> Result<(), AllocError> {
-    text.extend_from_slice(b"No die plays from ")?;
+/// Appends words, and from where to where a step goes.
+fn append_way(
+    words: &[u8],
+    step: &Step,
+    way: Direction,
+    text: &mut Vec<u8>,
+) -> Result<(), AllocError>
+    ensures { OnOk result (text.new.items
+        ≡ text.old.items ++ of_way words.now way (hop_of step.now).source (hop_of step.now).target) }
+{
+    text.extend_from_slice(words)?;
     append_place(step.source(), way, text)?;
     append_of_place(b" to ", step.target(), way, text)
 }
 
 /// Appends a rule that is broken.
-fn append_broken(
-    broken: &BrokenRule,
-    way: Direction,
-    text: &mut Vec<u8>,
-) -> Result<(), AllocError> {
+fn append_broken(broken: &BrokenRule, way: Direction, text: &mut Vec<u8>) -> Result<(), AllocError>
+    ensures { OnOk result (text.new.items ≡ text.old.items ++ rule_said way broken.now) }
+{
     match broken {
         BrokenRule::Bar => text.extend_from_slice(b"A checker on the bar enters first."),
         BrokenRule::Empty(place) => {
@@ -216,7 +239,7 @@ fn append_broken(
             text.extend_from_slice(b"No checker goes off before all are home.")
         }
         BrokenRule::Behind => text.extend_from_slice(b"A checker farther back goes first."),
-        BrokenRule::Distance(step) => append_distance(step, way, text),
+        BrokenRule::Distance(step) => append_way(b"No die plays from ", step, way, text),
         BrokenRule::MoreDice(most) => append_more_dice(*most, text),
         BrokenRule::Larger => text.extend_from_slice(b"The larger die must be played."),
     }
