@@ -8,6 +8,7 @@ pub mod SentLemmas
 pub mod TellingLemmas
 pub mod TryingLemmas
 pub mod GoingOnLemmas
+pub mod RespellingLemmas
 pub mod SendingLemmas
 pub mod LeavingLemmas
 pub mod ShownLemmas

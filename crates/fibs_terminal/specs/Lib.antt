@@ -12,6 +12,7 @@ pub mod LeftOut
 pub mod Grown
 pub mod HitsTold
 pub mod Rematch
+pub mod Respelling
 pub mod Resting
 pub mod Sending
 pub mod Sent

@@ -8,6 +8,7 @@ ghost use Rattle.fibs_position.specs.DecisionValue.{move};
 ghost use Rattle.fibs_rules.specs.PlayValue.{hops_of};
 ghost use Rattle.fibs_terminal.specs.Asking.{AsksInBounds, IsTakenAs, IsTakenOrGoes, KnownGoesOn, SendsUntaken, ShownGoesOn, TakesPlay};
 ghost use Rattle.fibs_terminal.specs.Leaving.{NeverQuits, Quits, QuitsBy};
+ghost use Rattle.fibs_terminal.specs.Respelling.{IsPassedAs, Respells};
 ghost use Rattle.fibs_terminal.specs.Sending.{SendsNoDecision, SendsOnWord, WentOnWord, says_send};
 ghost use Rattle.fibs_fields.specs.Split.{before};
 ghost use Rattle.fibs_terminal.specs.Trying.{AnswersTry, GoesOn, KeepsUnanswered, ShowsTry, Tries, TriesOrKeeps};
@@ -192,6 +193,7 @@ fn spell(
     ensures quit { line.old.items ≡ codes "quit" → line.new.items ≡ line.old.items }
     ensures go { line.old.items ≡ codes "go" → line.new.items ≡ line.old.items }
     ensures tries { before 32 line.old.items ≡ codes "try" → line.new.items ≡ line.old.items }
+    ensures spelled { OnOk result (Respells client.now numbers line.old.items line.new.items) }
 {
     if is_own(line.as_slice()) {
         return Ok(());
@@ -206,7 +208,9 @@ fn spell(
 }
 
 /// Respells a line if it then goes to the server as it is: with its first word in small letters, or spelled so.
-fn spell_passed(alloc: Global, line: &mut TypedLine, spelled: &[u8]) -> Result<(), AllocError> {
+fn spell_passed(alloc: Global, line: &mut TypedLine, spelled: &[u8]) -> Result<(), AllocError>
+    ensures { OnOk result (IsPassedAs spelled.now line.old.items line.new.items) }
+{
     if is_passed(line.as_slice()) {
         return Ok(());
     }

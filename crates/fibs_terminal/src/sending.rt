@@ -2,6 +2,7 @@
 ghost use Rattle.std.specs.Prelude.{◌≡◌, IfOk, codes, is_some, option_map};
 ghost use Rattle.std.specs.Str.{str_eq_ignore_ascii_case};
 ghost use Rattle.fibs_position.specs.DecisionValue.{decision_of};
+ghost use Rattle.fibs_session.specs.History.Allows.{refusal_of};
 ghost use Rattle.fibs_session.specs.History.Machine.{Talk};
 ghost use Rattle.fibs_session.specs.Calls.Standing.{StandsAfter};
 ghost use Rattle.fibs_session.specs.Typing.{decided, typed_by};
@@ -95,7 +96,9 @@ pub(crate) fn send(
 }
 
 /// The refusal of a decision that the rules forbid.
-fn refusal_of(why: Disallowed) -> Refusal {
+fn refusal_of(why: Disallowed) -> Refusal
+    ensures { result ≡ refusal_of why }
+{
     match why {
         Disallowed::NotYours => Refusal::NotYours,
         Disallowed::WrongKind => Refusal::WrongKind,
