@@ -1,6 +1,6 @@
 //! The command line, from its words to the exit status.
 use super::outcomes::assert_is;
-use crate::fibs_cli::arguments::{Answer, Asked, Call};
+use crate::fibs_cli::arguments::{Answer, Asked, Call, Request};
 use crate::fibs_cli::program::{answer, status};
 use crate::fibs_engine::fault::EngineFault;
 use crate::fibs_test_tools::outcome::Outcome;
@@ -121,8 +121,8 @@ fn answered<N: Net<Listener = TcpListener, Stream = TcpStream>>(rt: &N, words: &
     let line = line_of(words).expect("there is memory for it");
     match crate::fibs_cli::arguments::read(line.as_slice()) {
         Asked::Answer(called) => served(rt, &called, input),
-        // no row asks for a server
-        Asked::Connect(_) => Outcome::new(Err(EngineFault::Device), b"", b""),
+        // no row asks for a server, or for a file
+        Asked::Connect(_) | Asked::Files(..) => Outcome::new(Err(EngineFault::Device), b"", b""),
     }
 }
 
@@ -138,8 +138,27 @@ fn is_call(words: &[&str], wanted: &Call<'_>) -> Result<bool, AllocError> {
                 && call.name == wanted.name
                 && call.json == wanted.json
         }
-        Asked::Answer(_) => false,
+        Asked::Answer(_) | Asked::Files(..) => false,
     })
+}
+
+#[test]
+fn files_are_shown_in_the_order_in_which_they_are_named() {
+    for (words, wanted) in [
+        (&["fibs", "show", "a", "--events", "b c"][..], Some((Request::ShowEvents, &["a", "b c"][..]))),
+        (&["fibs", "show", "--json", "--", "--events"], Some((Request::ShowJson, &["--events"]))),
+        (&["fibs", "show", "-"], Some((Request::Show, &["-"]))),
+        (&["fibs", "show", "--events"], None),
+        (&["fibs", "plays", "a"], None),
+    ] {
+        let line = line_of(words).expect("there is memory for it");
+        let found = match crate::fibs_cli::arguments::read(line.as_slice()) {
+            Asked::Files(request, files) => Some((std::mem::discriminant(&request), files.as_slice().to_vec())),
+            _ => None,
+        };
+        let wanted = wanted.map(|(request, files)| (std::mem::discriminant(&request), files.to_vec()));
+        assert_eq!(found, wanted, "{words:?}");
+    }
 }
 
 /// Words that ask for a server, and what they ask of it.
