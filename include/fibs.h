@@ -551,7 +551,8 @@ enum {
     FIBS_EVENT_NOT_PLAYING = 19,          /* the user plays in no match */
     FIBS_EVENT_RATING_CHANGED = 20,       /* who, rating, experience */
     FIBS_EVENT_NOTHING_SAVED = 21,        /* no match was saved. name: with whom */
-    FIBS_EVENT_REFUSED = 22               /* the server has refused a decision: the line says why */
+    FIBS_EVENT_REFUSED = 22,              /* the server has refused a decision: the line says why */
+    FIBS_EVENT_LOGIN_REFUSED = 23         /* the server asks for the login once more: fibs_events_hear_bytes */
 };
 
 /* The name of a kind of events, such as `cannot_move`, as `fibs show --json --events` prints it; of FIBS_EVENT_NONE

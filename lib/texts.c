@@ -25,7 +25,7 @@ static const char *const decisions[] = {
 static const char *const events[] = {
     "none", "logged_in", "invited", "invited_to_resume", "joined", "resumed", "game_begun", "rolled", "played",
     "cannot_move", "doubled", "accepted", "rejected", "offered_to_resign", "declined", "game_over", "next_game",
-    "match_over", "left", "not_playing", "rating_changed", "nothing_saved", "refused"
+    "match_over", "left", "not_playing", "rating_changed", "nothing_saved", "refused", "login_refused"
 };
 
 #define COUNT(table) (sizeof(table) / sizeof(table)[0])

@@ -543,7 +543,7 @@ static void call_directory(uint8_t which) {
 }
 
 static void is_event(const fibs_event *event) {
-    must(event->kind >= FIBS_EVENT_LOGGED_IN && event->kind <= FIBS_EVENT_REFUSED, "an event's kind");
+    must(event->kind >= FIBS_EVENT_LOGGED_IN && event->kind <= FIBS_EVENT_LOGIN_REFUSED, "an event's kind");
     must(event->who <= FIBS_SIDE_OPPONENT && event->worth <= FIBS_WORTH_BACKGAMMON
          && event->offer <= FIBS_OFFER_RESIGNATION && event->dice[0] <= 6 && event->dice[1] <= 6
          && event->name.len <= FIBS_MAX_NAME, "an event");

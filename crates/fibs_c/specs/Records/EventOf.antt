@@ -96,6 +96,7 @@ IsEvent r (E.RatingChanged who rating experience) =
     (r.kind ≡ 20) × (r.who ≡ side_number who) × (r.rating ≡ rating) × (r.experience ≡ experience)
 IsEvent r (E.NothingSaved name) = IsNamed r 21 (name_bytes name)
 IsEvent r (E.Refused text) = r.kind ≡ 22
+IsEvent r E.LoginRefused = r.kind ≡ 23
 
 -- what C gets of an event, if there is one
 abbrev pub IsMaybeEvent : Option EventRecord → Option Event → Type 0

@@ -42,7 +42,7 @@ pub struct EventRecord {
     pub rating: u32,
     /// A move.
     pub play: DecisionRecord,
-    /// 1 to 22, in the order of the table of events.
+    /// 1 to 23, in the order of the table of events.
     pub kind: u8,
     /// 1 the user, 2 the opponent.
     pub who: u8,
@@ -265,6 +265,7 @@ fn event_record(event: &Event<'_>) -> EventRecord
         } => rated(*who, *rating, *experience),
         Event::NothingSaved { name } => named(21, name),
         Event::Refused { .. } => of_kind_alone(22),
+        Event::LoginRefused => of_kind_alone(23),
     }
 }
 
