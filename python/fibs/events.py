@@ -186,10 +186,14 @@ class Refused(NamedTuple):
     text: bytes
 
 
+class LoginRefused(NamedTuple):
+    """The server asks for the login once more: `Events.hear_bytes` alone gives it."""
+
+
 # Any event.
 Event = Union[LoggedIn, Invited, InvitedToResume, Joined, Resumed, GameBegun, Rolled, Played, CannotMove, Doubled,
               Accepted, Rejected, OfferedToResign, Declined, GameOver, NextGame, MatchOver, Left, NotPlaying,
-              RatingChanged, NothingSaved, Refused]
+              RatingChanged, NothingSaved, Refused, LoginRefused]
 
 
 def _who(told: Any) -> Side:
@@ -236,4 +240,5 @@ KINDS: Tuple[Callable[[Any, bytes], Event], ...] = (
     lambda told, line: RatingChanged(_who(told), told.rating, told.experience),
     lambda told, line: NothingSaved(_name(told)),
     lambda told, line: Refused(line),
+    lambda told, line: LoginRefused(),
 )
