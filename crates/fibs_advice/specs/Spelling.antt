@@ -9,8 +9,8 @@ use Rattle.fibs_rules.specs.Hop.{Hop}
 use Rattle.fibs_position.specs.DecisionValue.{move}
 use Rattle.fibs_position.specs.declared.direction.Direction.{Direction}
 use Rattle.fibs_commands.specs.CommandReading.{numbered_place, step_between}
-use Rattle.fibs_session.specs.History.Machine.{Talk}
-use Rattle.fibs_advice.specs.Offers.{is_taken}
+use Rattle.fibs_session.specs.History.Machine.{Talk, shown_now}
+use Rattle.fibs_advice.specs.Sending.{rules_allow}
 
 -- what stands between the bytes c of a text
 abbrev pub between : ℕ → List ℕ → List (List ℕ)
@@ -128,10 +128,10 @@ ChangesSame place a b = taken_from place a + brought_to place b ≡ taken_from p
 abbrev pub LeadsSame : List Hop → List Hop → Type 0
 LeadsSame a b = (place : ℕ) → place ≤ 25 → ChangesSame place a b
 
--- the play that is meant by the steps that are shown: these, or one that the client takes and after which the checkers
--- stand the same, as `24/13` means `24/18 18/13`
+-- the play that is meant by steps: these, or one that the rules allow on the board that is shown, and after which the
+-- checkers stand the same, as `24/13` means `24/18 18/13`
 abbrev pub IsMeantBy : Talk → List Hop → List Hop → Type 0
-IsMeantBy t steps play = (play ≡ steps) ⊎ (LeadsSame steps play × (is_taken t (move play) ≡ true))
+IsMeantBy t steps play = (play ≡ steps) ⊎ (LeadsSame steps play × (rules_allow (shown_now t) (move play) ≡ true))
 
 -- what a line is taken for: the play of the steps that it shows, if it shows some
 abbrev pub IsReadAs : Talk → Option (List Hop) → Option (List Hop) → Type 0

@@ -58,7 +58,7 @@ pub struct Aside {
 }
 
 /// Whether the rules allow a decision on the board that is shown.
-fn is_allowed(client: &Client, decision: &Decision) -> bool
+pub(crate) fn is_allowed(client: &Client, decision: &Decision) -> bool
     ensures is { IsTrue result → (t : Talk) → StandsAfter client.now t →
         rules_allow (shown_now t) (decision_of decision.now) ≡ true }
     ensures only { (t : Talk) → StandsAfter client.now t →

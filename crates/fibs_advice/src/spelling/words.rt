@@ -5,12 +5,13 @@ ghost use Rattle.fibs_fields.specs.Split.{seen};
 ghost use Rattle.fibs_position.specs.DecisionValue.{move};
 ghost use Rattle.fibs_rules.specs.PlayValue.{hops_of};
 ghost use Rattle.fibs_session.specs.Calls.Standing.{StandsAfter};
-ghost use Rattle.fibs_session.specs.History.Machine.{Talk};
+ghost use Rattle.fibs_session.specs.History.Machine.{Talk, shown_now};
 ghost use Rattle.fibs_session.specs.Typing.{way_now};
-ghost use Rattle.fibs_advice.specs.Offers.{is_taken};
+ghost use Rattle.fibs_advice.specs.Sending.{rules_allow};
 ghost use Rattle.fibs_advice.specs.Spelled.{IsMove, Spells, first_word, from_first, is_talk, joined, long_word, name_spelled, plain_spelled, small, small_first, takes_name, talk_spelled, word_spelled};
 ghost use Rattle.fibs_advice.specs.Spelling.{IsMeantBy, IsReadAs, LeadsSame, steps_shown};
 
+use crate::advised::is_allowed;
 use crate::offers::is_taken;
 use crate::spelling::moves::{only_meaning, typed_move};
 use fibs_commands::{CommandText, decision_text};
@@ -73,17 +74,18 @@ pub fn way_now(client: &Client, numbers: Numbers) -> Direction
     numbers.way(client.direction().unwrap_or(Direction::Down))
 }
 
-/// The legal move that the client takes now, and that was meant by one that was typed, if only one can be.
+/// The legal move that was meant by one that was typed, if only one can be.
 fn other_meaning(alloc: Global, client: &Client, typed: &Play) -> Result<Option<Play>, AllocError>
     ensures { IfOk result (λ found. IfSome found (λ play. LeadsSame (hops_of typed.now) (hops_of play)
-        × ((t : Talk) → StandsAfter client.now t → is_taken t (move (hops_of play)) ≡ true))) }
+        × ((t : Talk) → StandsAfter client.now t →
+            rules_allow (shown_now t) (move (hops_of play)) ≡ true))) }
 {
     let Some(game) = client.game() else {
         return Ok(None);
     };
     let plays = game.position().plays(alloc)?;
     match only_meaning(typed, plays.as_slice()) {
-        Some(play) if is_taken(client, &Decision::Move(play)) => Ok(Some(play)),
+        Some(play) if is_allowed(client, &Decision::Move(play)) => Ok(Some(play)),
         _ => Ok(None),
     }
 }
