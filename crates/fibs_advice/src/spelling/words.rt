@@ -12,7 +12,6 @@ ghost use Rattle.fibs_advice.specs.Spelled.{IsMove, Spells, first_word, from_fir
 ghost use Rattle.fibs_advice.specs.Spelling.{IsMeantBy, IsReadAs, LeadsSame, steps_shown};
 
 use crate::advised::is_allowed;
-use crate::offers::is_taken;
 use crate::spelling::moves::{only_meaning, typed_move};
 use fibs_commands::{CommandText, decision_text};
 use fibs_fields::split::split;
@@ -90,12 +89,12 @@ fn other_meaning(alloc: Global, client: &Client, typed: &Play) -> Result<Option<
     }
 }
 
-/// The move that was meant by one that was typed: that one, if the client takes it, or if no other can be meant.
+/// The move that was meant by one that was typed: that one, if the rules allow it, or if no other can be meant.
 fn meant(alloc: Global, client: &Client, typed: &Play) -> Result<Play, AllocError>
     ensures { IfOk result (λ play. (t : Talk) → StandsAfter client.now t
         → IsMeantBy t (hops_of typed.now) (hops_of play)) }
 {
-    if is_taken(client, &Decision::Move(*typed)) {
+    if is_allowed(client, &Decision::Move(*typed)) {
         return Ok(*typed);
     }
     match other_meaning(alloc, client, typed)? {
@@ -104,8 +103,8 @@ fn meant(alloc: Global, client: &Client, typed: &Play) -> Result<Play, AllocErro
     }
 }
 
-/// The move that a line shows, by the numbers that the user reads: just its steps, or, if the client does not take
-/// these, the only legal move after which the checkers stand the same.
+/// The move that a line shows, by the numbers that the user reads: just its steps, or, if the rules forbid these,
+/// the only legal move after which the checkers stand the same.
 ///
 /// Errors: if memory runs out.
 pub fn shown_move(
