@@ -145,11 +145,11 @@ fn is_call(words: &[&str], wanted: &Call<'_>) -> Result<bool, AllocError> {
 #[test]
 fn files_are_shown_in_the_order_in_which_they_are_named() {
     for (words, wanted) in [
-        (&["fibs", "show", "a", "--events", "b c"][..], Some((Request::ShowEvents, &["a", "b c"][..]))),
-        (&["fibs", "show", "--json", "--", "--events"], Some((Request::ShowJson, &["--events"]))),
-        (&["fibs", "show", "-"], Some((Request::Show, &["-"]))),
-        (&["fibs", "show", "--events"], None),
-        (&["fibs", "plays", "a"], None),
+        (&["show", "a", "--events", "b c"][..], Some((Request::ShowEvents, &["a", "b c"][..]))),
+        (&["show", "--json", "--", "--events"], Some((Request::ShowJson, &["--events"]))),
+        (&["show", "-"], Some((Request::Show, &["-"]))),
+        (&["show", "--events"], None),
+        (&["plays", "a"], None),
     ] {
         let line = line_of(words).expect("there is memory for it");
         let found = match crate::fibs_cli::arguments::read(line.as_slice()) {
@@ -224,7 +224,7 @@ static ANSWERED: [(&[&str], u8); 8] = [
     (&["help", "plays"], 0),
     (&[], 2),
     (&["dance"], 2),
-    (&["show", "more"], 2),
+    (&["loop", "more"], 2),
     (&["plays"], 2),
 ];
 
