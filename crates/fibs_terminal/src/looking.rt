@@ -22,6 +22,7 @@ use fibs_connect::wish::Wish;
 use fibs_position::{Decision, Numbers};
 use fibs_session::Client;
 use fibs_wording::environment::Page;
+use fibs_wording::environment::broken::break_at_spaces;
 use std::alloc::AllocError;
 
 /// What is said if `plays` is followed by no place.
@@ -153,7 +154,9 @@ impl Looking {
             columns: page.columns(),
             is_told: page.settings.words,
         };
+        let start = page.text.len();
         self.plays = append_plays(alloc, game, &sheet, listing, &mut page.text)?;
+        break_at_spaces(start, page.columns(), &mut page.text);
         Ok(())
     }
 

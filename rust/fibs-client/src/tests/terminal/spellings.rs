@@ -1,7 +1,7 @@
 //! Lines as players type them, and what is sent.
 
 use super::lines::{SETTINGS, UP, WELCOME};
-use super::seats::{Cue, assert_ends, plain_settings};
+use super::seats::{Cue, assert_ends, plain_settings, shown_then};
 use crate::fibs_wording::environment::Settings;
 
 /// A board with the dice 6 and 5, on which the player goes down.
@@ -110,4 +110,17 @@ fn what_is_said_of_a_line_that_is_no_move_is_spelled_in_narrow_rows() {
     let rows =
         "24/18/13   one checker, two steps;\n24/13 too, if it can go one way only\nplays lists the legal moves.\n";
     assert_ends(narrow, &SHOWN, &[Cue::Types(b"move 9")], rows);
+}
+
+#[test]
+fn the_legal_moves_are_listed_in_narrow_rows() {
+    let narrow = Settings { columns: 40, ..plain_settings() };
+    for (board, line, _) in &MOVES {
+        let before = [Cue::Hears(WELCOME), Cue::Hears(SETTINGS), Cue::Hears(board)];
+        for typed in [&b"plays"[..], b"plays more"] {
+            let said = shown_then(narrow, &before, &[Cue::Types(typed)]);
+            let wide: Vec<&str> = said.lines().filter(|row| row.len() > 40 && !row.starts_with("Your move")).collect();
+            assert!(wide.is_empty(), "{wide:?} at {}", line.escape_ascii());
+        }
+    }
 }
