@@ -48,7 +48,7 @@ joined_some played a os b bs = go (nat_le (length played + length (a ∷ os)) 4)
         ≡ then_onto (cond few (Some (played ++ (a ∷ os))) None) (Some (b ∷ bs))
     go true e =
         let same : length played + length ((a ∷ os) ++ (b ∷ bs))
-            ≡ length (played ++ (a ∷ os)) + length (b ∷ bs) =
+        ≡ length (played ++ (a ∷ os)) + length (b ∷ bs) =
         omega (arith, length-append played (a ∷ os), length-append (a ∷ os) (b ∷ bs)) in
         rw (same, append_assoc played (a ∷ os) (b ∷ bs)) refl
     go false e =

@@ -114,6 +114,7 @@ other_shows client numbers standing text before after read (Ok wish) same is non
     by_shown : (t : Talk) (o : Option (List Hop)) (steps : List Hop) → IsReadAs t o read → o ≡ Some steps → ⊥
     by_shown t None steps is some = some_is_none (sym some)
     by_shown t (Some others) steps is some = some_is_none (sym is.1 ∙ none)
+
     never : (t : Talk) (steps : List Hop) → IsReadAs t (steps_shown (way_now numbers t) text) read
         → steps_shown (way_now numbers t) text ≡ Some steps → ⊥
     never t steps is some = by_shown t (steps_shown (way_now numbers t) text) steps is some

@@ -77,7 +77,7 @@ pub fn way_now(client: &Client, numbers: Numbers) -> Direction
 fn other_meaning(alloc: Global, client: &Client, typed: &Play) -> Result<Option<Play>, AllocError>
     ensures { IfOk result (λ found. IfSome found (λ play. LeadsSame (hops_of typed.now) (hops_of play)
         × ((t : Talk) → StandsAfter client.now t →
-            rules_allow (shown_now t) (move (hops_of play)) ≡ true))) }
+        rules_allow (shown_now t) (move (hops_of play)) ≡ true))) }
 {
     let Some(game) = client.game() else {
         return Ok(None);

@@ -6,7 +6,7 @@ use Rattle.fibs_advice.proofs.spelling.moves.+line_steps.Goals as goal
 pub line_steps-requires : goal.line_steps-requires
 line_steps-requires t c =
     let shorter = rest_shorter 32 c.args.text.now c.in-Some.rest.now
-        (sym c.split.ensures.after ∙ ap seen c.in-Some.is) in
+    (sym c.split.ensures.after ∙ ap seen c.in-Some.is) in
     (omega (arith, shorter, c.decreases), tt)
 
 pub returns-in-None : goal.returns-in-None

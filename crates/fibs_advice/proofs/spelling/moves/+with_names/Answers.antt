@@ -20,7 +20,7 @@ returns-in_err-play t c = ap (option_map hops_of) c.from_residual-in_err-play.en
 pub with_names-requires : goal.with_names-requires
 with_names-requires t c =
     let shorter = rest_shorter c.args.cut c.args.text.now c.in-Some.rest.now
-        (sym c.split.ensures.after ∙ ap seen c.in-Some.is) in
+    (sym c.split.ensures.after ∙ ap seen c.in-Some.is) in
     (omega (arith, shorter, c.decreases), omega (arith, c.target.ensures.high))
 
 pub returns-in-None : goal.returns-in-None

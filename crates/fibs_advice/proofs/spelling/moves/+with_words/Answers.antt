@@ -13,7 +13,7 @@ returns-in_err-play t c = ap (option_map hops_of) c.from_residual.ensures
 pub with_words-requires : goal.with_words-requires
 with_words-requires t c =
     let shorter = rest_shorter 32 c.args.text.now c.in-Some.rest.now
-        (sym c.split.ensures.after ∙ ap seen c.in-Some.is) in
+    (sym c.split.ensures.after ∙ ap seen c.in-Some.is) in
     (omega (arith, shorter, c.decreases), tt)
 
 pub returns-in-None : goal.returns-in-None

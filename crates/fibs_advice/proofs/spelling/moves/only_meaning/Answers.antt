@@ -8,9 +8,9 @@ use Rattle.fibs_advice.proofs.spelling.moves.only_meaning.Goals as goal
 pub loop-play-preserved : goal.loop-play-preserved
 loop-play-preserved c = elim c.if-leads_same.branch [
   | then-leads_same+else-is_some w ↦ subst
-        (λ found. IfSome found (λ play. LeadsSame (hops_of c.args.typed.now) (hops_of play)))
-        (sym w.found-is) (c.leads_same.ensures w.if-leads_same.true)
+      (λ found. IfSome found (λ play. LeadsSame (hops_of c.args.typed.now) (hops_of play)))
+      (sym w.found-is) (c.leads_same.ensures w.if-leads_same.true)
   | else-leads_same w ↦ subst
-        (λ found. IfSome found (λ play. LeadsSame (hops_of c.args.typed.now) (hops_of play)))
-        (sym w.found-is) c.loop-play.invariant
+      (λ found. IfSome found (λ play. LeadsSame (hops_of c.args.typed.now) (hops_of play)))
+      (sym w.found-is) c.loop-play.invariant
 ]
