@@ -1,8 +1,8 @@
 // What is known of the user's match, and of what he is asked: events tell it, and a board ends what an event began.
 
 /** What a game leaves behind when another one begins: the opponent's last play, in his numbers, and his dice; his offer
- * to resign, and whether the user has made one; and the decision that waits on though a text refused or declined it. */
-const NO_GAME = { moved: [], rolled: null, offer: null, isOffered: false, declined: null };
+ * to resign, and whether the user has made one; what waits on though a text declined it; and if it goes on unseen. */
+const NO_GAME = { moved: [], rolled: null, offer: null, isOffered: false, declined: null, isResumed: false };
 
 export class Match {
   /** The opponent, who is null before the first match, and with whom a match is to be resumed. */
@@ -27,17 +27,17 @@ export class Match {
     Object.assign(this, NO_GAME, { next: null, over: null, resumes: name });
   }
 
-  #begin(name) {
+  #begin(name, isResumed) {
     this.lose();
-    Object.assign(this, { opponent: name, over: null });
+    Object.assign(this, { opponent: name, over: null, isResumed });
   }
 
   /** A board of the user's own game came. `isWaiting`: a decision still waits for another board. */
   see(board, isWaiting) {
-    Object.assign(this, { opponent: board.opponent, resumes: null });
-    if (isWaiting) return;
-    this.declined = null;
-    if (board.phase === 'Over') return;
+    const endedUnseen = this.isResumed && board.phase === 'Over' && !board.matchOver;
+    Object.assign(this, { opponent: board.opponent, resumes: null, isResumed: false }, endedUnseen && { next: {} });
+    if (!isWaiting) this.declined = null;
+    if (isWaiting || board.phase === 'Over') return;
     this.next = null;
     if (this.over?.event === 'gameOver') this.over = null;
   }
@@ -57,12 +57,12 @@ export class Match {
         if (this.resumes === found.name) return `join ${found.name}`;
         this.invitations.set(found.name, null);
         break;
-      case 'joined': case 'resumed': case 'gameBegun': this.#begin(found.name); break;
+      case 'joined': case 'resumed': case 'gameBegun': this.#begin(found.name, found.event === 'resumed'); break;
       case 'played': if (isOpponent) this.moved = found.steps; break;
       case 'rolled': if (isOpponent) Object.assign(this, { rolled: found.dice, moved: [] }); break;
       case 'cannotMove': if (isOpponent) this.moved = []; break;
       case 'gameOver': case 'matchOver': case 'left': Object.assign(this, NO_GAME, { next: null, over: found }); break;
-      case 'nextGame': Object.assign(this, { next: this.over, over: null }); break;
+      case 'nextGame': Object.assign(this, { next: this.over ?? this.next ?? {}, over: null }); break;
       case 'nothingSaved': if (this.resumes) Object.assign(this, NO_GAME, { resumes: null, over: found }); break;
       case 'notPlaying': if (this.resumes) return `invite ${this.resumes}`; break;
       default:

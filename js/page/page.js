@@ -185,8 +185,7 @@ const logIn = () => {
   }
   events?.close();
   [events, name, match, lost, last] = [new Events(), at('name').value, new Match(), null, null];
-  at('password').value = '';
-  at('why').textContent = '';
+  [at('password').value, at('why').textContent] = ['', ''];
   people.note([], name);
   replay.close();
   connect();
@@ -300,7 +299,9 @@ function* askedInGame(board) {
       yes('Take', () => decide('accept')), no('Pass', () => decide('reject')));
   }
   if (match.next) {
-    yield ask(`${won(match.next.who)} the game, ${points(match.next.points)}. The score is ${board?.score.join('-')}.`,
+    const { who, points: n } = match.next;
+    const how = who ? `${won(who)} the game, ${points(n)}` : 'The game is over';
+    yield ask(`${how}. The score is ${board?.score.join('-')}.`,
       yes('Next game', then({ next: null }, 'join')), no('Leave, and save', then({ next: null }, 'leave')));
   } else if (match.over && match.over.event !== 'gameOver') yield askedAfterMatch(match.over);
 }

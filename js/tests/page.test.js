@@ -64,6 +64,14 @@ test('a match knows what is asked, and forgets it', () => {
   assert.equal(match.learn({ event: 'invitedToResume', name: 'eve' }, null), 'join eve');
   match.learn({ event: 'nothingSaved', name: 'eve' }, null);
   assert.deepEqual([match.resumes, match.over.event], [null, 'nothingSaved']);
+  // a game that ended while one was away leaves the next one to be joined, by a board or a text
+  match.learn({ event: 'resumed', name: 'eve' }, null);
+  const over = read(opening.replace(/:3:0:1:/, ':3:1:1:'));
+  match.see({ ...over, phase: 'Over', matchOver: false }, false);
+  match.learn({ event: 'nextGame' }, null);
+  assert.deepEqual(match.next, {});
+  match.see(read(opening), false);
+  assert.equal(match.next, null);
   // the answer to what was typed asks nothing
   match.over = null;
   match.learn({ event: 'nothingSaved', name: 'eve' }, null);
