@@ -242,7 +242,8 @@ class Babble:
 
     def types(self, line, rows, lines):
         """Types a line that was named: it is not refused."""
-        if line in ('open', 'quit', 'bye'):
+        if line in ('open', 'quit', 'bye', 'fix', 'players ready'):
+            # they send nothing, or end the connection
             return
         self.ann.type(line)
         end = time.monotonic() + 20
