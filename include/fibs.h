@@ -600,6 +600,14 @@ void fibs_events_free(fibs_events *events);
  * goes on after one is lost; leave out lines that were cut. NO_HANDLE; MEMORY. */
 fibs_status fibs_events_hear(fibs_events *events, const char *line, size_t len, fibs_happened *happened);
 
+/* Hears bytes of a connection as they come, in whatever pieces; their lines go to fibs_events_hear besides. Gives what
+ * no line says: LOGIN_REFUSED, once of each question for the login that comes again before the server has greeted the
+ * user. NO_HANDLE. */
+fibs_status fibs_events_hear_bytes(fibs_events *events, const char *bytes, size_t len, fibs_happened *happened);
+
+/* A connection is opened, on which the server asks for the login anew. The first one need not be told. NO_HANDLE. */
+fibs_status fibs_events_open(fibs_events *events);
+
 /* The opponent of the match that is played, or was played last: at most FIBS_MAX_NAME bytes, 0 if none is known.
  * NO_HANDLE; SHORT, and *len is set. */
 fibs_status fibs_events_opponent(fibs_events *events, char *text, size_t room, size_t *len);

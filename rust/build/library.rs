@@ -36,10 +36,18 @@ pub const BY_HAND: &[(&str, &str, &str)] = &[
     ("fibs_engine", "connections/questions", ""),
     ("fibs_engine", "retrying", ""),
     ("fibs_engine", "standard", ""),
-    ("fibs_c", "records/client_handle", "pub use crate::handles::ClientHandle;\n"),
-    ("fibs_c", "records/directory_handle", "pub use crate::handles::DirectoryHandle;\n"),
-    ("fibs_c", "records/events_handle", "pub use crate::handles::EventsHandle;\n"),
-    ("fibs_c", "records/lines_handle", "pub use crate::handles::LinesHandle;\n"),
+    (
+        "fibs_c",
+        "records/client_handle",
+        "pub type ClientHandle = crate::handles::Handle<crate::fibs_session::Client>;\n",
+    ),
+    (
+        "fibs_c",
+        "records/directory_handle",
+        "pub type DirectoryHandle = crate::handles::Handle<crate::fibs_messages::directory::Directory>;\n",
+    ),
+    ("fibs_c", "records/events_handle", "pub type EventsHandle = crate::handles::Handle<super::listener::Listener>;\n"),
+    ("fibs_c", "records/lines_handle", "pub type LinesHandle = crate::handles::Handle<crate::fibs_lines::Lines>;\n"),
     ("fibs_c", "records/loose", ""),
     ("fibs_replay", "play_loop", ""),
 ];

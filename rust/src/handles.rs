@@ -1,39 +1,26 @@
 //! What C holds: pointers to what the library made, and slices that C gives. Written by hand.
 #![allow(unsafe_code)]
 
-use crate::fibs_events::Events;
-use crate::fibs_lines::Lines;
-use crate::fibs_messages::directory::Directory;
-use crate::fibs_session::Client;
 use std::{ptr, slice};
 
-macro_rules! handle {
-    ($name:ident, $held:ty) => {
-        /// A pointer to a value of the library, or null for none. C keeps it, and gives it to the library's functions.
-        #[repr(C)]
-        pub struct $name {
-            at: *mut $held,
-        }
-
-        impl $name {
-            pub fn of(held: Box<$held>) -> $name {
-                $name { at: Box::into_raw(held) }
-            }
-
-            /// Takes what is held.
-            pub fn take(&mut self) -> Option<Box<$held>> {
-                let at = std::mem::replace(&mut self.at, ptr::null_mut());
-                // SAFETY: what is not null came from `of`, and is held once: the header asks this of C.
-                (!at.is_null()).then(|| unsafe { Box::from_raw(at) })
-            }
-        }
-    };
+/// A pointer to a value of the library, or null for none. C keeps it, and gives it to the library's functions.
+#[repr(C)]
+pub struct Handle<T> {
+    at: *mut T,
 }
 
-handle!(ClientHandle, Client);
-handle!(DirectoryHandle, Directory);
-handle!(EventsHandle, Events);
-handle!(LinesHandle, Lines);
+impl<T> Handle<T> {
+    pub fn of(held: Box<T>) -> Handle<T> {
+        Handle { at: Box::into_raw(held) }
+    }
+
+    /// Takes what is held.
+    pub fn take(&mut self) -> Option<Box<T>> {
+        let at = std::mem::replace(&mut self.at, ptr::null_mut());
+        // SAFETY: what is not null came from `of`, and is held once: the header asks this of C.
+        (!at.is_null()).then(|| unsafe { Box::from_raw(at) })
+    }
+}
 
 /// The items that C has at a place.
 ///

@@ -20,9 +20,9 @@ int LLVMFuzzerTestOneInput(const uint8_t *data, size_t size);
 #ifndef FAMILY
 #define FAMILY 0
 #endif
-enum { FUNCTIONS = 53 };
+enum { FUNCTIONS = 55 };
 static const struct { uint8_t first, count; } families[] = {
-    { 0, FUNCTIONS }, { 0, 7 }, { 7, 18 }, { 25, 16 }, { 41, 8 }, { 49, 4 }
+    { 0, FUNCTIONS }, { 0, 7 }, { 7, 18 }, { 25, 16 }, { 41, 8 }, { 49, 6 }
 };
 
 static unsigned long long calls, calls_of[FUNCTIONS];
@@ -569,6 +569,16 @@ static void call_events(uint8_t which) {
         break;
     case 2:
         is_text(fibs_events_opponent(&held.events, text, room, &out.size), text, room, FIBS_MAX_NAME);
+        break;
+    case 3:
+        answered(fibs_events_open(&held.events), NOTHING);
+        break;
+    case 4:
+        status = fibs_events_hear_bytes(&held.events, line.bytes, line.len, &out.happened);
+        if (answered(status, status == FIBS_STATUS_DONE ? HAPPENED : NOTHING)) {
+            must(out.happened.count == 0 || (out.happened.count == 1
+                 && out.happened.events[0].kind == FIBS_EVENT_LOGIN_REFUSED), "what bytes say");
+        }
         break;
     default:
         status = fibs_events_hear(&held.events, line.bytes, line.len, &out.happened);

@@ -74,6 +74,8 @@ static void check_handles(void) {
         check(fibs_directory_field_of(&directory, TEXT("a"), 1, &field, text, sizeof text) == S(NO_HANDLE),
               "field of none");
         check(fibs_events_hear(&events, TEXT("6"), &happened) == S(NO_HANDLE), "hear of none");
+        check(fibs_events_hear_bytes(&events, TEXT("6"), &happened) == S(NO_HANDLE)
+              && fibs_events_open(&events) == S(NO_HANDLE), "hear_bytes, open of none");
         check(fibs_events_opponent(&events, text, sizeof text, &len) == S(NO_HANDLE), "opponent of none");
         fibs_lines_free(&lines);
         fibs_client_free(&client);

@@ -571,6 +571,49 @@ static void check_events(void) {
     }
 }
 
+/* How many refusals of a login bytes tell that come in pieces of a size. */
+static size_t refusals(fibs_events *events, const char *bytes, size_t len, size_t size) {
+    size_t count = 0;
+    for (size_t at = 0; at < len; at += size) {
+        size_t rest = len - at < size ? len - at : size;
+        fibs_status status = fibs_events_hear_bytes(events, bytes + at, rest, &out.happened);
+        check(out.happened.count == 0 || (out.happened.count == 1
+              && out.happened.events[0].kind == FIBS_EVENT_LOGIN_REFUSED), "a refusal");
+        check_event(&out.happened.events[0]);
+        count += out.happened.count;
+        is("bytes", S(DONE), status, HAPPENED);
+    }
+    return count;
+}
+
+static void check_logins(void) {
+    static const char asked[] = "Welcome.\r\nlogin: ", again[] = "\r\nlogin: ";
+    static const char greeted[] = "1 ann 1041253132 localhost\r\n";
+    fibs_events events = NULL;
+    is("bytes of none", S(NO_HANDLE), fibs_events_hear_bytes(&events, T(asked), &out.happened), NOTHING);
+    is("open of none", S(NO_HANDLE), fibs_events_open(&events), NOTHING);
+    is("new", S(DONE), fibs_events_new(&events), NOTHING);
+    for (size_t size = 1; size < 20; size++) {
+        check(refusals(&events, T(asked), size) == 0, "the first question");
+        check(refusals(&events, T(again), size) == 1, "the second one");
+        check(refusals(&events, NULL, 0, size) == 0 && refusals(&events, T("guest"), size) == 0, "it is told once");
+        check(refusals(&events, T(again), size) == 1, "of each question");
+        is("open", S(DONE), fibs_events_open(&events), NOTHING);
+        check(refusals(&events, T(asked), size) == 0, "the first question of another connection");
+        check(refusals(&events, T(greeted), size) == 0 && refusals(&events, T(asked), size) == 0
+              && refusals(&events, T(again), size) == 0, "after the greeting");
+        is("open", S(DONE), fibs_events_open(&events), NOTHING);
+    }
+    is("no bytes", S(DONE), fibs_events_hear_bytes(&events, NULL, 0, &out.happened), HAPPENED);
+    fibs_events_hear(&events, T("** Player someplayer has joined you for a 3 point match."), &out.happened);
+    fibs_events_hear_bytes(&events, T(asked), &out.happened);
+    is("open", S(DONE), fibs_events_open(&events), HAPPENED);
+    fibs_events_opponent(&events, out.text, sizeof out.text, &out.size);
+    check(out.size == 10 && memcmp(out.text, "someplayer", 10) == 0, "the lines are remembered");
+    fill();
+    fibs_events_free(&events);
+}
+
 int main(void) {
     fill();
     check_names();
@@ -580,6 +623,7 @@ int main(void) {
     check_client();
     check_directory();
     check_events();
+    check_logins();
     printf("%d passed, %d failed\n", passed, failed);
     return failed > 0;
 }

@@ -4,39 +4,65 @@ use Rattle.fibs_fields.specs.Board.{BoardFields}
 use Rattle.fibs_messages.specs.Line.{ReadingValue, board_line}
 use Rattle.fibs_position.specs.GoodBoard.{good}
 use Rattle.fibs_rules.specs.PlayValue.{hops_of}
+use Rattle.fibs_events.specs.Asking.{after_bytes, as_told, not_asked, refused_by}
 use Rattle.fibs_events.specs.Known.{IsHeard, known_of}
+use Rattle.fibs_events.specs.declared.asking.Asking.{Asking}
 use Rattle.fibs_events.specs.declared.happened.Happened.{Happened}
-use Rattle.fibs_events.specs.declared.memory.Events.{Events}
-use Rattle.fibs_c.specs.Records.EventOf.{AreEvents, events_in, events_of}
+use Rattle.fibs_c.specs.Records.EventOf.{AreEvents, events_in, events_of, listed}
 use Rattle.fibs_c.specs.Records.Texts.{HandsOut}
 use Rattle.fibs_c.specs.declared.records.events.HappenedRecord.{HappenedRecord}
+use Rattle.fibs_c.specs.declared.records.listener.Listener.{Listener}
+
+-- what a handle holds has heard so much of the login, and the same lines
+abbrev pub with_login : Listener → Asking → Listener
+with_login l asking = record { lines = l.lines; login = asking }
 
 -- events were made, or they were refused: some are held already, or memory ran out
-abbrev pub IsNewEvents : Option Events → Option Events → ℕ → Type 0
-IsNewEvents (Some e) new status = (status ≡ 502) × (new ≡ Some e)
+abbrev pub IsNewEvents : Option Listener → Option Listener → ℕ → Type 0
+IsNewEvents (Some l) new status = (status ≡ 502) × (new ≡ Some l)
 IsNewEvents None None status = status ≡ 401
-IsNewEvents None (Some e) status = status ≡ 0
+IsNewEvents None (Some l) status = (status ≡ 0) × (l.login ≡ not_asked)
 
--- what `Events::hear` does with a line, and that C gets what has happened by it
-pub record Hears (old new : Events) (reading : ReadingValue) (told : HappenedRecord) : Type 0 where
+-- what `Events::hear` does with a line, and that C gets what has happened by it; the login is as it was
+pub record Hears (old new : Listener) (reading : ReadingValue) (told : HappenedRecord) : Type 0 where
   pub happened : Happened
   pub events : AreEvents (events_in told) (events_of happened)
-  pub played : IfSome happened.played (λ turned. IsHeard (known_of old) reading turned.who (hops_of turned.play))
-  pub known : (b : BoardFields) → reading ≡ board_line b → good b ≡ true → known_of new ≡ Some b
+  pub played : IfSome happened.played (λ turned. IsHeard (known_of old.lines) reading turned.who (hops_of turned.play))
+  pub known : (b : BoardFields) → reading ≡ board_line b → good b ≡ true → known_of new.lines ≡ Some b
+  pub login : new.login ≡ old.login
 
 -- a line is heard, or memory ran out, and nothing is written
-abbrev pub HearsOrNot : Events → Events → ReadingValue → HappenedRecord → HappenedRecord → ℕ → Type 0
+abbrev pub HearsOrNot : Listener → Listener → ReadingValue → HappenedRecord → HappenedRecord → ℕ → Type 0
 HearsOrNot old new reading told told' status =
     ((status ≡ 401) × (told' ≡ told)) ⊎ ((status ≡ 0) × Hears old new reading told')
 
 -- a line is heard, if the handle has events
-abbrev pub IsLineHeard : Option Events → Option Events → ReadingValue → HappenedRecord → HappenedRecord → ℕ → Type 0
+abbrev pub IsLineHeard
+    : Option Listener → Option Listener → ReadingValue → HappenedRecord → HappenedRecord → ℕ → Type 0
 IsLineHeard None new reading told told' status = (status ≡ 501) × (new ≡ None) × (told' ≡ told)
-IsLineHeard (Some e) None reading told told' status = ⊥
-IsLineHeard (Some e) (Some f) reading told told' status = HearsOrNot e f reading told told' status
+IsLineHeard (Some l) None reading told told' status = ⊥
+IsLineHeard (Some l) (Some m) reading told told' status = HearsOrNot l m reading told told' status
+
+-- bytes are heard: C gets the refusal of the login that they tell, if they tell one, and the lines are as they were
+abbrev pub HearsBytes : Listener → Listener → List ℕ → HappenedRecord → ℕ → Type 0
+HearsBytes old new bytes told status =
+    (status ≡ 0) × (new ≡ with_login old (as_told (after_bytes old.login bytes)))
+    × AreEvents (events_in told) (listed (refused_by (after_bytes old.login bytes)))
+
+-- bytes are heard, if the handle has events
+abbrev pub AreBytesHeard
+    : Option Listener → Option Listener → List ℕ → HappenedRecord → HappenedRecord → ℕ → Type 0
+AreBytesHeard None new bytes told told' status = (status ≡ 501) × (new ≡ None) × (told' ≡ told)
+AreBytesHeard (Some l) None bytes told told' status = ⊥
+AreBytesHeard (Some l) (Some m) bytes told told' status = HearsBytes l m bytes told' status
+
+-- a connection is opened, on which nothing was asked; the lines are as they were
+abbrev pub IsOpened : Option Listener → Option Listener → ℕ → Type 0
+IsOpened None new status = (status ≡ 501) × (new ≡ None)
+IsOpened (Some l) new status = (status ≡ 0) × (new ≡ Some (with_login l not_asked))
 
 -- the name of an opponent, or nothing, is handed out, and the events are as they were
-abbrev pub IsOpponentTold : Option Events → Option Events → List ℕ → List ℕ → ℕ → ℕ → ℕ → Type 0
+abbrev pub IsOpponentTold : Option Listener → Option Listener → List ℕ → List ℕ → ℕ → ℕ → ℕ → Type 0
 IsOpponentTold None new text text' len len' status = (status ≡ 501) × (new ≡ None) × (text' ≡ text) × (len' ≡ len)
-IsOpponentTold (Some e) new text text' len len' status =
-    (new ≡ Some e) × (name : List ℕ) × HandsOut name text text' len' status
+IsOpponentTold (Some l) new text text' len len' status =
+    (new ≡ Some l) × (name : List ℕ) × HandsOut name text text' len' status

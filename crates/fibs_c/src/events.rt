@@ -1,15 +1,17 @@
-//! What lines say has happened.
+//! What lines say has happened, and what bytes say of the login.
 
 ghost use Rattle.std.specs.Prelude.{◌≡◌, List, None, ℕ};
 ghost use Rattle.fibs_messages.specs.Line.{reading_of, reading_value};
-ghost use Rattle.fibs_c.specs.EventsDoor.{HearsOrNot, IsLineHeard, IsNewEvents, IsOpponentTold};
+ghost use Rattle.fibs_events.specs.Asking.{not_asked};
+ghost use Rattle.fibs_c.specs.EventsDoor.{AreBytesHeard, HearsBytes, HearsOrNot, IsLineHeard, IsNewEvents, IsOpened, IsOpponentTold, with_login};
 ghost use Rattle.fibs_c.specs.Records.Texts.{HandsOut};
 
 use crate::records::EventsHandle;
-use crate::records::events::{HappenedRecord, happened_record};
+use crate::records::events::{HappenedRecord, happened_record, said_record};
+use crate::records::listener::Listener;
 use crate::records::status::{DONE, HELD, MEMORY, NO_HANDLE};
 use crate::records::text::hand_out;
-use fibs_events::Events;
+use fibs_events::asking::Asking;
 use fibs_messages::{Reading, read};
 use std::alloc::Global;
 
@@ -22,7 +24,7 @@ pub extern "C" fn fibs_events_new(alloc: Global, events: &mut EventsHandle) -> u
         *events = EventsHandle::of(held);
         return HELD;
     }
-    match Box::new(alloc, Events::new()) {
+    match Box::new(alloc, Listener::new()) {
         Ok(made) => {
             *events = EventsHandle::of(made);
             DONE
@@ -40,10 +42,15 @@ pub extern "C" fn fibs_events_free(alloc: Global, events: &mut EventsHandle)
 }
 
 /// Hears what a reading says, and gives what has happened by it.
-fn hear(alloc: Global, events: &mut Events, reading: &Reading<'_>, told: &mut HappenedRecord) -> u32
-    ensures { HearsOrNot events.old events.new (reading_of reading.now) told.old told.new result }
+fn hear(
+    alloc: Global,
+    listener: &mut Listener,
+    reading: &Reading<'_>,
+    told: &mut HappenedRecord,
+) -> u32
+    ensures { HearsOrNot listener.old listener.new (reading_of reading.now) told.old told.new result }
 {
-    match events.hear(alloc, reading) {
+    match listener.lines.hear(alloc, reading) {
         Err(_) => MEMORY,
         Ok(happened) => {
             *told = happened_record(&happened);
@@ -67,11 +74,51 @@ pub extern "C" fn fibs_events_hear(
     })
 }
 
+/// Hears bytes, and gives the refusal of the login, if they tell it.
+fn hear_bytes(listener: &mut Listener, bytes: &[u8], told: &mut HappenedRecord) -> u32
+    ensures { HearsBytes listener.old listener.new bytes.now told.new result }
+{
+    *told = said_record(&listener.login.hear(bytes));
+    DONE
+}
+
+/// Hears bytes of a connection as they come, and gives what they say that no line does: that the login is refused.
+#[unsafe(no_mangle)]
+pub extern "C" fn fibs_events_hear_bytes(
+    alloc: Global,
+    events: &mut EventsHandle,
+    bytes: &[u8],
+    told: &mut HappenedRecord,
+) -> u32
+    ensures { AreBytesHeard events.old.value events.new.value bytes.now told.old told.new result }
+{
+    with!(EventsHandle, events, alloc, |held| {
+        hear_bytes(&mut held, bytes, told)
+    })
+}
+
+/// Forgets what was asked on the connection before.
+fn open(listener: &mut Listener) -> u32
+    ensures opened { listener.new ≡ with_login listener.old not_asked }
+    ensures status { result ≡ 0 }
+{
+    listener.login = Asking::new();
+    DONE
+}
+
+/// A connection is opened: the server asks for the login anew.
+#[unsafe(no_mangle)]
+pub extern "C" fn fibs_events_open(alloc: Global, events: &mut EventsHandle) -> u32
+    ensures { IsOpened events.old.value events.new.value result }
+{
+    with!(EventsHandle, events, alloc, |held| { open(&mut held) })
+}
+
 /// Hands out the opponent's name.
-fn hand_out_opponent(events: &Events, text: &mut [u8], len: &mut usize) -> u32
+fn hand_out_opponent(listener: &Listener, text: &mut [u8], len: &mut usize) -> u32
     ensures { (name : List ℕ) × HandsOut name text.old text.new len.new result }
 {
-    hand_out(events.opponent(), text, len)
+    hand_out(listener.lines.opponent(), text, len)
 }
 
 /// The opponent of the match that is played, or was played last; nothing if none is known.

@@ -11,6 +11,7 @@ pub mod fields;
 pub mod kinds;
 pub mod laws;
 mod lines_handle;
+pub mod listener;
 mod loose;
 pub mod outstanding;
 pub mod status;

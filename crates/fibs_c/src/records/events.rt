@@ -269,11 +269,11 @@ fn event_record(event: &Event<'_>) -> EventRecord
     }
 }
 
-/// What a text or a message says.
-fn said(happened: &Happened<'_>) -> Option<EventRecord>
-    ensures { IsMaybeEvent result happened.now.said }
+/// An event as C has it, if there is one.
+fn said(event: &Option<Event<'_>>) -> Option<EventRecord>
+    ensures { IsMaybeEvent result event.now }
 {
-    match &happened.said {
+    match event {
         None => None,
         Some(event) => Some(event_record(event)),
     }
@@ -365,16 +365,25 @@ fn push(told: &mut HappenedRecord, event: &Option<EventRecord>)
     }
 }
 
-/// What has happened by a line, as C has it.
-pub fn happened_record(happened: &Happened<'_>) -> HappenedRecord
-    ensures few { result.count ≤ 7 }
-    ensures events { AreEvents (events_in result) (events_of happened.now) }
+/// One event, or none, as C has it.
+pub fn said_record(event: &Option<Event<'_>>) -> HappenedRecord
+    ensures few { result.count ≤ 1 }
+    ensures events { AreEvents (events_in result) (listed event.now) }
 {
     let mut told = HappenedRecord {
         count: 0,
         events: [of_kind_alone(0); 7],
     };
-    push(&mut told, &said(happened));
+    push(&mut told, &said(event));
+    told
+}
+
+/// What has happened by a line, as C has it.
+pub fn happened_record(happened: &Happened<'_>) -> HappenedRecord
+    ensures few { result.count ≤ 7 }
+    ensures events { AreEvents (events_in result) (events_of happened.now) }
+{
+    let mut told = said_record(&happened.said);
     push(&mut told, &play(happened));
     push(&mut told, &double(happened));
     push(&mut told, &acceptance(happened));

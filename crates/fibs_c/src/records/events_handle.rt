@@ -2,14 +2,14 @@
 
 ghost use Rattle.std.specs.Prelude.{◌≡◌, Option, None, Some, option_map};
 ghost use Rattle.std.specs.Coded.{coded_option};
-ghost use Rattle.fibs_events.specs.contracts.memory.Events.{the_row};
-ghost use Rattle.fibs_events.specs.declared.memory.Events.{Events};
+ghost use Rattle.fibs_c.specs.contracts.records.listener.Listener.{the_row};
+ghost use Rattle.fibs_c.specs.declared.records.listener.Listener.{Listener};
 ghost use Rattle.fibs_c.specs.Records.Handles.{maybe_owns};
 ghost use Rattle.std_alloc.specs.Box.{box_value};
 ghost use Rattle.libc.specs.Heap.{chunk};
 
+use crate::records::listener::Listener;
 use crate::records::loose::Loose;
-use fibs_events::Events;
 use std::alloc::Global;
 use std::marker::Model;
 use std::{mem, ptr};
@@ -22,7 +22,7 @@ use std::{mem, ptr};
 #[derive(Drop)]
 pub struct EventsHandle {
     at: *mut u8,
-    pub ghost value: { Option Events } by { coded_option the_row.coded },
+    pub ghost value: { Option Listener } by { coded_option the_row.coded },
 }
 
 impl Model for EventsHandle {
@@ -40,7 +40,7 @@ impl EventsHandle {
     }
 
     /// The one behind the pointer.
-    fn of_loose(loose: Loose<Events, Global>) -> EventsHandle
+    fn of_loose(loose: Loose<Listener, Global>) -> EventsHandle
         ensures { result.value ≡ Some loose.value }
     {
         let Loose { at, alloc: _ } = loose;
@@ -48,7 +48,7 @@ impl EventsHandle {
     }
 
     /// The pointer, if there is one.
-    fn into_loose(self, alloc: Global) -> Option<Loose<Events, Global>>
+    fn into_loose(self, alloc: Global) -> Option<Loose<Listener, Global>>
         ensures { option_map (λ l. l.value) result ≡ self.value }
     {
         let EventsHandle { at } = self;
@@ -56,20 +56,20 @@ impl EventsHandle {
             return None;
         }
         Some(Loose {
-            at: at as *mut Events,
+            at: at as *mut Listener,
             alloc,
         })
     }
 
     /// The one in the box.
-    pub fn of(held: Box<Events, Global>) -> EventsHandle
+    pub fn of(held: Box<Listener, Global>) -> EventsHandle
         ensures { result.value ≡ Some (box_value held) }
     {
         EventsHandle::of_loose(Loose::of(held))
     }
 
     /// Takes it out, if there is one.
-    pub fn take(&mut self, alloc: Global) -> Option<Box<Events, Global>>
+    pub fn take(&mut self, alloc: Global) -> Option<Box<Listener, Global>>
         ensures value { option_map box_value result ≡ self.old.value }
         ensures none { self.new.value ≡ None }
     {

@@ -33,7 +33,7 @@ use Rattle.std.proofs.raw_atomic.Walks.{proved_at, leaves}
 use Rattle.fibs_c.proofs.LooseValues.{both, Loose, loose_good, loose_in}
 use Rattle.fibs_c.proofs.HandleValues.{held_val, held_told, held_typed, held_split, heap_tells, ptr_typed}
 use Rattle.fibs_c.specs.contracts.records.events_handle.EventsHandle as held
-use Rattle.fibs_events.specs.contracts.memory.Events as inner
+use Rattle.fibs_c.specs.contracts.records.listener.Listener as inner
 use Rattle.fibs_c.specs.contracts.records.events_handle.EventsHandle.into_loose.{ended, clauses}
 use Rattle.fibs_c.specs.contracts.records.events_handle.EventsHandle.into_loose.Key.{name as #self}
 use Rattle.fibs_c.proofs.records.events_handle.EventsHandle.into_loose.Statement.{statement}
