@@ -8,9 +8,14 @@ from typing import List, Union
 from . import _library
 from ._handles import Handle
 from ._lines import Line
-from ._texts import Text, bytes_of, told_text
+from ._texts import Bytes, Text, bytes_of, piece_of, told_text
 from .errors import check
 from .events import KINDS, Event
+
+
+def _told(told: _library.Happened, data: bytes) -> List[Event]:
+    """The events of a record, of these bytes."""
+    return [KINDS[event.kind - 1](event, data) for event in told.events[:told.count]]
 
 
 class Events(Handle):
@@ -35,7 +40,20 @@ class Events(Handle):
             line = line.text
         data, told = bytes_of(line), _library.Happened()
         check(_library.lib.fibs_events_hear(self._owned.at, data, len(data), byref(told)))
-        return [KINDS[event.kind - 1](event, data) for event in told.events[:told.count]]
+        return _told(told, data)
+
+    def hear_bytes(self, piece: Bytes) -> List[Event]:
+        """What bytes of the server say that no line does: `LoginRefused`, once of each question for the login that
+        comes again before the server has greeted the user. Give it all bytes of a connection, in whatever pieces;
+        their lines go to `hear` besides. Closed."""
+        data, told = piece_of(piece), _library.Happened()
+        check(_library.lib.fibs_events_hear_bytes(self._owned.at, data, len(data), byref(told)))
+        return _told(told, data)
+
+    def open(self) -> None:
+        """A connection is opened, on which the server asks for the login anew. The first one need not be told.
+        Closed."""
+        check(_library.lib.fibs_events_open(self._owned.at))
 
     @property
     def opponent(self) -> bytes:

@@ -229,6 +229,8 @@ _FUNCTIONS: dict[str, tuple[Any, list[Any]]] = {
     'fibs_events_new': (c_uint32, [_HANDLE]),
     'fibs_events_free': (None, [_HANDLE]),
     'fibs_events_hear': (c_uint32, [_HANDLE, *_DATA, POINTER(Happened)]),
+    'fibs_events_hear_bytes': (c_uint32, [_HANDLE, *_DATA, POINTER(Happened)]),
+    'fibs_events_open': (c_uint32, [_HANDLE]),
     'fibs_events_opponent': (c_uint32, [_HANDLE, *_ROOM, _LENGTH]),
     'fibs_directory_new': (c_uint32, [_HANDLE]),
     'fibs_directory_free': (None, [_HANDLE]),

@@ -179,6 +179,32 @@ def lines_say_what_has_happened(counts):
         counts.raises(fibs.Closed, call)
 
 
+def bytes_say_that_a_login_is_refused(counts):
+    """The server's question, once more, in pieces of any size."""
+    asked, again = b'Welcome.\r\nlogin: ', b'\r\nlogin: '
+    for size in range(1, 20):
+        events = fibs.Events()
+
+        def refusals(data):
+            return [event for at in range(0, len(data), size) for event in events.hear_bytes(data[at:at + size])]
+
+        counts.same([refusals(piece) for piece in (asked, again, b'', b'guest', again)],
+                    [[], [fibs.events.LoginRefused()], [], [], [fibs.events.LoginRefused()]], 'by %d' % size)
+        counts.same(type(refusals(again)[0]), fibs.events.LoginRefused, 'what it is')
+        events.open()
+        counts.same([refusals(piece) for piece in (asked, b'1 ann 1041253132 localhost\r\n', asked, again)], [[]] * 4,
+                    'another connection, on which it is greeted')
+    events.hear(JOINED)
+    events.open()
+    counts.same((events.opponent, events.hear_bytes(bytearray(asked)), events.hear_bytes(memoryview(again))),
+                (b'bob', [], [fibs.events.LoginRefused()]), 'its opponent is that of the lines')
+    for wrong in 'login: ', 5, None, [again]:
+        counts.raises(TypeError, events.hear_bytes, wrong)
+    events.close()
+    counts.raises(fibs.Closed, events.hear_bytes, again)
+    counts.raises(fibs.Closed, events.open)
+
+
 def as_object(event, number):
     """An event as the program prints it."""
     name = re.sub(r'(?<!^)(?=[A-Z])', '_', type(event).__name__).lower()
@@ -223,4 +249,5 @@ def each_event_of_the_header_has_its_tuple(counts):
 
 
 TESTS = [turns_go_on_to_legal_plays, a_turn_says_what_is_left, boards_say_more_than_fields, saved_matches_are_read,
-         lines_say_what_has_happened, events_are_those_of_the_program, each_event_of_the_header_has_its_tuple]
+         lines_say_what_has_happened, bytes_say_that_a_login_is_refused, events_are_those_of_the_program,
+         each_event_of_the_header_has_its_tuple]
