@@ -15,7 +15,7 @@ from fibs import events
 class Bot:
     def __init__(self, name, password, opponent):
         self.client, self.events, self.opponent = fibs.Client(name, password), fibs.Events(), opponent
-        self.has_begun = self.is_over = False
+        self.is_over = self.is_refused = False
 
     def answers(self, line):
         """What is to be sent after a line."""
@@ -26,7 +26,7 @@ class Bot:
             print(event, flush=True)
             if isinstance(event, events.NothingSaved):
                 # a match that had begun is over then, and its end was not seen
-                self.is_over = self.has_begun
+                self.is_over = self.events.opponent != b''
                 yield b'' if self.is_over else self.client.plain('invite %s 3' % self.opponent)
             elif isinstance(event, events.OfferedToResign) and event.who == events.Side.OPPONENT:
                 yield self.client.own_line('accept')
@@ -41,7 +41,6 @@ class Bot:
         """What is to be sent at a board. A server shows some boards twice: then a decision may wait."""
         if board.player != b'You' or self.client.waiting:
             return b''
-        self.has_begun = True
         if board.phase == fibs.Phase.MOVE:
             return self.client.decide(board.plays()[0])
         simple = {fibs.Phase.ROLL_OR_DOUBLE: fibs.ROLL, fibs.Phase.ANSWER_DOUBLE: fibs.ACCEPT}.get(board.phase)
@@ -49,8 +48,10 @@ class Bot:
 
     def converse(self, server):
         """One connection, up to its end or that of the match."""
+        self.events.open()
         server.sendall(self.client.open())
-        while not self.is_over and (piece := server.recv(4096)):
+        while not self.is_over and not self.is_refused and (piece := server.recv(4096)):
+            self.is_refused = any(isinstance(event, events.LoginRefused) for event in self.events.hear_bytes(piece))
             for heard in self.client.feed(piece):
                 server.sendall(heard.send)
                 for answer in self.answers(heard.line):
@@ -68,8 +69,8 @@ def main():
                 bot.converse(server)
         except OSError:
             pass
-        if bot.is_over:
-            return 0
+        if bot.is_over or bot.is_refused:
+            return 0 if bot.is_over else 'the server refuses the login'
         # what waited is decided anew on the board that comes
         print('lost', bot.client.lose(), flush=True)
     return 1
