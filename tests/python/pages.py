@@ -77,7 +77,8 @@ def names_of_the_page_are_in_the_package(counts):
     words = set(re.findall(r'\b[A-Z][A-Za-z]+\b|\b[A-Z][A-Z_]+\b', ' '.join(re.findall(r'`([^`\n]+)`', PAGE))))
     builtin = {'ImportError', 'KeyboardInterrupt', 'TypeError', 'ValueError', 'MemoryError', 'FIBS_LIBRARY',
                'LD_LIBRARY_PATH'}
-    counts.same({word for word in words - builtin if not hasattr(fibs, word)}, set(), 'names that are nowhere')
+    known = {*vars(fibs), *vars(fibs.events)}
+    counts.same(words - builtin - known, set(), 'names that are nowhere')
 
 
 def the_types_hold(counts):
