@@ -612,6 +612,19 @@ fibs_status fibs_events_open(fibs_events *events);
  * NO_HANDLE; SHORT, and *len is set. */
 fibs_status fibs_events_opponent(fibs_events *events, char *text, size_t room, size_t *len);
 
+/* ---- Saved matches ---- */
+
+/* A row of the answer to `show saved`. */
+typedef struct fibs_saved {
+    fibs_name name;            /* the opponent. If the text is no such row, name.len and all else are 0 */
+    uint32_t length;           /* how many points the match is to; 9999 if it is unlimited */
+    uint32_t score[2];         /* the points of the user, and of the opponent */
+    uint8_t there;             /* 1 if the opponent is logged in */
+} fibs_saved;
+
+/* What a text says, such as ` *bob   5   2 -  3`, if it is such a row. */
+void fibs_saved_match(const char *text, size_t len, fibs_saved *saved);
+
 /* ---- The players that the server listed ---- */
 
 /* The players of messages 5 and 8: each as the latest message 5 has him, in the order in which they were first listed,

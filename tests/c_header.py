@@ -23,7 +23,8 @@ RECORDS = {'LinesHandle': 'fibs_lines', 'ClientHandle': 'fibs_client', 'Director
            'BoardRecord': 'fibs_board', 'FieldRecord': 'fibs_field', 'PlayStep': 'fibs_step',
            'DecisionRecord': 'fibs_decision', 'WireRecord': 'fibs_wire', 'OutstandingRecord': 'fibs_outstanding',
            'Heard': 'fibs_heard', 'PartRecord': 'fibs_part', 'PlayerRecord': 'fibs_player', 'EventsHandle': 'fibs_events',
-           'NameRecord': 'fibs_name', 'EventRecord': 'fibs_event', 'HappenedRecord': 'fibs_happened'}
+           'NameRecord': 'fibs_name', 'EventRecord': 'fibs_event', 'HappenedRecord': 'fibs_happened',
+           'SavedRecord': 'fibs_saved'}
 
 NUMBERS = {'u8': 'uint8_t', 'u16': 'uint16_t', 'u32': 'uint32_t', 'u64': 'uint64_t', 'i32': 'int32_t',
            'usize': 'size_t', 'bool': 'bool', '*mut u8': 'void *'}

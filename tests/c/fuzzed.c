@@ -20,9 +20,9 @@ int LLVMFuzzerTestOneInput(const uint8_t *data, size_t size);
 #ifndef FAMILY
 #define FAMILY 0
 #endif
-enum { FUNCTIONS = 55 };
+enum { FUNCTIONS = 56 };
 static const struct { uint8_t first, count; } families[] = {
-    { 0, FUNCTIONS }, { 0, 7 }, { 7, 18 }, { 25, 16 }, { 41, 8 }, { 49, 6 }
+    { 0, FUNCTIONS }, { 0, 7 }, { 7, 18 }, { 25, 16 }, { 41, 8 }, { 49, 7 }
 };
 
 static unsigned long long calls, calls_of[FUNCTIONS];
@@ -579,6 +579,12 @@ static void call_events(uint8_t which) {
             must(out.happened.count == 0 || (out.happened.count == 1
                  && out.happened.events[0].kind == FIBS_EVENT_LOGIN_REFUSED), "what bytes say");
         }
+        break;
+    case 5:
+        fibs_saved_match(line.bytes, line.len, &out.saved);
+        answered(FIBS_STATUS_DONE, SAVED);
+        must(out.saved.name.len <= FIBS_MAX_NAME && out.saved.there <= 1
+             && (out.saved.name.len > 0 || (out.saved.length == 0 && out.saved.there == 0)), "a saved match");
         break;
     default:
         status = fibs_events_hear(&held.events, line.bytes, line.len, &out.happened);

@@ -614,6 +614,27 @@ static void check_logins(void) {
     fibs_events_free(&events);
 }
 
+static void check_saved(void) {
+    static const struct { const char *row, *name; uint32_t length, score[2]; uint8_t there; } rows[] = {
+        { " *bob                 5                2 -  3", "bob", 5, { 2, 3 }, 1 },
+        { "**carl  unlimited 0 - 12", "carl", 9999, { 0, 12 }, 1 }, { "  eve 7 1 - 0 ", "eve", 7, { 1, 0 }, 0 },
+        { "***bob 5 2 - 3", "*bob", 5, { 2, 3 }, 1 }, { "* 5 2 - 3", "", 0, { 0, 0 }, 0 },
+        { "bob 5 2 3", "", 0, { 0, 0 }, 0 }, { "bob -5 2 - 3", "", 0, { 0, 0 }, 0 }, { "", "", 0, { 0, 0 }, 0 },
+        { "bob 5 2 - 3 4", "", 0, { 0, 0 }, 0 }, { "bob 5 2 + 3", "", 0, { 0, 0 }, 0 },
+        { "bob 100000000 2 - 3", "", 0, { 0, 0 }, 0 }, { "b:b 5 2 - 3", "", 0, { 0, 0 }, 0 },
+        { "bob 99999999 99999999 - 0", "bob", 99999999, { 99999999, 0 }, 0 },
+        { "  opponent          matchlength   score (your points first)", "", 0, { 0, 0 }, 0 },
+    };
+    for (size_t i = 0; i < sizeof rows / sizeof rows[0]; i++) {
+        fibs_saved_match(T(rows[i].row), &out.saved);
+        check(out.saved.name.len == strlen(rows[i].name) && out.saved.length == rows[i].length
+              && memcmp(out.saved.name.bytes, rows[i].name, out.saved.name.len) == 0
+              && memcmp(out.saved.score, rows[i].score, sizeof rows[i].score) == 0
+              && out.saved.there == rows[i].there, rows[i].row);
+        is(rows[i].row, 0, 0, SAVED);
+    }
+}
+
 int main(void) {
     fill();
     check_names();
@@ -624,6 +645,7 @@ int main(void) {
     check_directory();
     check_events();
     check_logins();
+    check_saved();
     printf("%d passed, %d failed\n", passed, failed);
     return failed > 0;
 }

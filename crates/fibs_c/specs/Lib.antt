@@ -14,6 +14,7 @@ pub mod DirectoryDoor
 pub mod PlayerDoor
 pub mod EventsDoor
 pub mod WordsDoor
+pub mod SavedDoor
 -- What only private functions and proofs say.
 pub mod ReadingOn
 -- What C sees: records, statuses, handles and the wire.

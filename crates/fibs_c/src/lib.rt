@@ -34,9 +34,11 @@ mod player;
 mod positions;
 mod readings;
 mod records;
+mod saved;
 mod words;
 
 pub use feeding::Heard;
 pub use lines::FedLine;
 pub use many_lines::{Told, ToldLine};
 pub use player::{PartRecord, PlayerRecord};
+pub use saved::SavedRecord;

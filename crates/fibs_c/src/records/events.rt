@@ -1,6 +1,6 @@
 //! Events as C has them.
 
-ghost use Rattle.std.specs.Prelude.{◌≡◌, ◌≤◌, ◌<◌, ◌+◌, ◌++◌, option_map};
+ghost use Rattle.std.specs.Prelude.{◌≡◌, ◌≤◌, ◌<◌, ◌+◌, ◌++◌, [], option_map};
 ghost use Rattle.fibs_fields.specs.Bytes.{name_bytes};
 ghost use Rattle.fibs_events.specs.declared.event.Event.TheVariants as E;
 ghost use Rattle.fibs_c.specs.Records.EventOf.{AreEvents, IsEvent, IsMaybeEvent, IsNamed, IsOfMatch, IsOfPoints, IsOfSide, events_in, events_of, length_number, listed, name_in, offer_number, rolled_event, side_number, taken_event, turned_event, won_event, won_match_event, worth_number};
@@ -106,7 +106,9 @@ fn worth_number(worth: Option<Stake>) -> u8
 }
 
 /// No name.
-fn no_name() -> NameRecord {
+pub fn no_name() -> NameRecord
+    ensures { name_in result ≡ [] }
+{
     NameRecord {
         len: 0,
         bytes: [0; 64],
@@ -114,7 +116,7 @@ fn no_name() -> NameRecord {
 }
 
 /// A name as C has it.
-fn name_record(name: &Name<'_>) -> NameRecord
+pub fn name_record(name: &Name<'_>) -> NameRecord
     ensures { name_in result ≡ name_bytes name.now }
 {
     let mut told = no_name();
