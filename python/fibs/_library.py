@@ -163,6 +163,14 @@ class Happened(Structure):
     _fields_ = [('count', c_size_t), ('events', Event * 7)]
 
 
+class Saved(Structure):
+    name: Name
+    length: int
+    score: Any
+    there: int
+    _fields_ = [('name', Name), ('length', c_uint32), ('score', c_uint32 * 2), ('there', c_uint8)]
+
+
 # A row of many lines, unpacked at once: start, length, the wrong field, kind, number, fault, cut.
 ROW = struct.Struct('=QQQBBB5xB7x')
 
@@ -232,6 +240,7 @@ _FUNCTIONS: dict[str, tuple[Any, list[Any]]] = {
     'fibs_events_hear_bytes': (c_uint32, [_HANDLE, *_DATA, POINTER(Happened)]),
     'fibs_events_open': (c_uint32, [_HANDLE]),
     'fibs_events_opponent': (c_uint32, [_HANDLE, *_ROOM, _LENGTH]),
+    'fibs_saved_match': (None, [*_DATA, POINTER(Saved)]),
     'fibs_directory_new': (c_uint32, [_HANDLE]),
     'fibs_directory_free': (None, [_HANDLE]),
     'fibs_directory_note': (c_uint32, [_HANDLE, *_DATA]),

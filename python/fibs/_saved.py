@@ -2,16 +2,11 @@
 
 from __future__ import annotations
 
-import re
+from ctypes import byref
 from typing import NamedTuple, Optional
 
+from . import _library
 from ._texts import Text, bytes_of
-
-# A row of the answer to `show saved`.
-_ROW = re.compile(rb' *([!-9;-~]{1,66}) +(unlimited|\d{1,8}) +(\d{1,8}) +- +(\d{1,8}) *')
-
-# The length of an unlimited match, as a board has it.
-_UNLIMITED = 9999
 
 
 class SavedMatch(NamedTuple):
@@ -27,13 +22,9 @@ class SavedMatch(NamedTuple):
 
 def saved_match(text: Text) -> Optional[SavedMatch]:
     """What a row of the answer to `show saved` says, such as ` *bob   5   2 -  3`. None if the text is no such row."""
-    row = _ROW.fullmatch(bytes_of(text))
-    if not row:
+    data, told = bytes_of(text), _library.Saved()
+    _library.lib.fibs_saved_match(data, len(data), byref(told))
+    if not told.name.len:
         return None
-    starred, length, own, other = row.groups()
-    # a star says that the opponent is logged in, or two that he is ready too
-    name = starred.removeprefix(b'*').removeprefix(b'*')
-    if not 1 <= len(name) <= 64:
-        return None
-    return SavedMatch(name, _UNLIMITED if length == b'unlimited' else int(length), int(own), int(other),
-                      name != starred)
+    own, other = told.score
+    return SavedMatch(bytes(told.name.bytes[:told.name.len]), told.length, own, other, bool(told.there))
