@@ -52,7 +52,7 @@ fn moves_are_listed_down_the_columns() {
     let narrow = Settings { columns: 30, ..plain_settings() };
     let rows = "  24-22 8-2   13-7 8-6\n  24-18* 8-6  8-6 8-2\n  13-11 8-2   8-2 6-4\n6 legal moves from there.\n";
     assert_has(narrow, &[Cue::Hears(BLOT), Cue::Types(b"plays 8")], &[rows]);
-    let narrowest = Settings { columns: 3, ..plain_settings() };
+    let narrowest = Settings { columns: 14, ..plain_settings() };
     assert_has(narrowest, &[Cue::Hears(BLOT), Cue::Types(b"plays 8")], &["  24-22 8-2\n  24-18* 8-6\n  13-11 8-2\n"]);
 }
 
