@@ -48,6 +48,7 @@ TERMINAL = {
     'matches': r'matches.*ended',
     'reconnect': r'opens? .*again|opened again|by itself',
     'stay': r'closed|ends? (this|that)',
+    'fix': r'\boff\b',
     'columns': r'wide|width',
     'rows': r'\bhigh\b|height',
     'board above': r'upper rows|in sight',
