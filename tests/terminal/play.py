@@ -187,7 +187,7 @@ def a_name_is_asked_for(server):
             player.is_shown('Welcome, ann')
             player.type('quit')
         player.ends(status)
-        same('what is said of %r' % typed, 'NAME has to be' in player.screen(), status == REFUSED)
+        same('what is said of %r' % typed, 'is no NAME' in player.screen(), status == REFUSED)
         player.close()
 
 
