@@ -3,10 +3,9 @@ pub mod past
 pub mod wires
 pub mod log
 pub mod Answering
-pub mod ServerActs
+pub mod acts
 pub mod Refusing
 pub mod Stepping
-pub mod ClientActs
 pub mod Talks
 pub mod Sound
 pub mod joint

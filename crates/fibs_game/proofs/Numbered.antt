@@ -14,8 +14,8 @@ use Rattle.fibs_game.specs.World.{World, after, noted, linked, serves}
 use Rattle.fibs_game.specs.Runs.{AllAccepted, after_all}
 use Rattle.fibs_game.specs.Game.{Game}
 use Rattle.fibs_game.proofs.Answering.{answered_at}
-use Rattle.fibs_game.proofs.ClientActs.{does}
-use Rattle.fibs_game.proofs.ServerActs.{Answers, answers_line, answers_served}
+use Rattle.fibs_game.proofs.acts.Client.{does}
+use Rattle.fibs_game.proofs.acts.Server.{Answers, answers_line, answers_served}
 use Rattle.fibs_game.proofs.Refusing.{is_closed, is_open, served}
 use Rattle.fibs_game.proofs.Sound.{sound_after}
 use Rattle.fibs_game.proofs.Stepping.{opens_is, loses_is}

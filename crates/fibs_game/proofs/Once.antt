@@ -17,9 +17,9 @@ use Rattle.fibs_game.specs.Refusals.{refusal}
 use Rattle.fibs_game.specs.Runs.{after_all, world_after}
 use Rattle.fibs_game.specs.Once.{taken_by, taken_on, Leaves, Takes, OneStep, NoneOwn, NoTwoAlike, TakesOnce, OnceHolds}
 use Rattle.fibs_game.proofs.Answering.{answered_at as answered}
-use Rattle.fibs_game.proofs.ClientActs.{NoAnswers}
+use Rattle.fibs_game.proofs.acts.Client.{NoAnswers}
 use Rattle.fibs_game.proofs.Refusing.{not_refused}
-use Rattle.fibs_game.proofs.ServerActs.{sends_board, sends_log}
+use Rattle.fibs_game.proofs.acts.Server.{sends_board, sends_log}
 use Rattle.fibs_game.proofs.Steps.{Adds, adds_same, Fits, fits, adds}
 
 module _ {G : Game} where

@@ -15,9 +15,9 @@ use Rattle.fibs_game.specs.Runs.{AllAccepted, after_all}
 use Rattle.fibs_game.specs.Talks.{IsWorld, input_of}
 use Rattle.fibs_game.specs.World.{World, start, after, client_does, talk_of, linked, sends, serves}
 use Rattle.fibs_game.proofs.Answering.{answered_at as answered}
-use Rattle.fibs_game.proofs.ClientActs.{does_sound, does_talk, talk_is, talk_path}
+use Rattle.fibs_game.proofs.acts.Client.{does_sound, does_talk, talk_is, talk_path}
 use Rattle.fibs_game.proofs.Refusing.{is_open, is_closed}
-use Rattle.fibs_game.proofs.ServerActs.{Answers, servers_aside, answers_keep, answers_line, answers_served}
+use Rattle.fibs_game.proofs.acts.Server.{Answers, servers_aside, answers_keep, answers_line, answers_served}
 use Rattle.fibs_game.proofs.Stepping.{at_it, elsewhere, no_more, one_more, opens_is, loses_is, step_opens, step_loses, newest, stays_world}
 use Rattle.fibs_game.proofs.Talks.{Silence, Steps, Follows, TalkIsProjected}
 use Rattle.fibs_game.proofs.joint.Joint.{linked_keeps}

@@ -15,8 +15,8 @@ use Rattle.fibs_game.specs.Server.{Served, carried, obeyed}
 use Rattle.fibs_game.specs.Server as V
 use Rattle.fibs_game.specs.World.{World, after, client_does, sends, talk_of}
 use Rattle.fibs_game.proofs.Answering.{answered_at as answered}
-use Rattle.fibs_game.proofs.ClientActs.{NoAnswers, none_append, clients_heard, no_board, goes_click, goes_plain, goes_if}
-use Rattle.fibs_game.proofs.ServerActs.{sends_board, sends_log}
+use Rattle.fibs_game.proofs.acts.Client.{NoAnswers, none_append, clients_heard, no_board, goes_click, goes_plain, goes_if}
+use Rattle.fibs_game.proofs.acts.Server.{sends_board, sends_log}
 use Rattle.fibs_game.proofs.joint.Sending.{if_fact}
 
 module _ (G : Game) where

@@ -16,7 +16,7 @@ use Rattle.fibs_game.proofs.past.Past.{open_append}
 use Rattle.fibs_game.proofs.joint.Joint.{linked_same, linked_other}
 use Rattle.fibs_game.proofs.joint.Sending.{with_line}
 use Rattle.fibs_game.proofs.joint.Steady.{SteadyTo, steady_rest, steady_serves}
-use Rattle.fibs_game.proofs.ClientActs.{Does, there_none}
+use Rattle.fibs_game.proofs.acts.Client.{Does, there_none}
 use Rattle.fibs_game.proofs.joint.Carrying.{carried_is, carried_sent}
 
 module _ (G : Game) where

@@ -18,8 +18,8 @@ use Rattle.fibs_game.specs.Wires.{Link, taken, next_line}
 use Rattle.fibs_game.specs.World.{World, after, noted, linked, is_talking, does_served, serves}
 use Rattle.fibs_game.specs.Game.{Game}
 use Rattle.fibs_game.proofs.Answering.{answered_at as answered}
-use Rattle.fibs_game.proofs.ClientActs.{NoAnswers}
-use Rattle.fibs_game.proofs.ServerActs.{sends_log}
+use Rattle.fibs_game.proofs.acts.Client.{NoAnswers}
+use Rattle.fibs_game.proofs.acts.Server.{sends_log}
 use Rattle.fibs_game.proofs.Steps.{Adds, Fits, fits, adds}
 use Rattle.fibs_game.proofs.joint.Sending.{if_fact}
 use Rattle.fibs_game.proofs.past.Lists.{same_number, other_number}

@@ -22,7 +22,7 @@ use Rattle.fibs_game.specs.Game.{Game}
 use Rattle.fibs_game.specs.Lawful.{IsQuiet, Lawful}
 use Rattle.fibs_game.specs.Talks.{IsWorld}
 use Rattle.fibs_game.proofs.Answering.{answered_at as answered}
-use Rattle.fibs_game.proofs.ClientActs.{does, given, there_both}
+use Rattle.fibs_game.proofs.acts.Client.{does, given, there_both}
 use Rattle.fibs_game.proofs.Final.{kept, told_start}
 use Rattle.fibs_game.proofs.past.Lists.{other_number, to_list}
 use Rattle.fibs_game.proofs.past.Past.{open_append}

@@ -23,8 +23,8 @@ use Rattle.fibs_game.specs.Hearing.{line_says}
 use Rattle.fibs_game.specs.Lawful.{IsQuiet, Lawful}
 use Rattle.fibs_game.specs.Talks.{IsWorld}
 use Rattle.fibs_game.proofs.Answering.{answered_at as answered}
-use Rattle.fibs_game.proofs.ClientActs.{Does, does, given, there_none}
-use Rattle.fibs_game.proofs.ServerActs.{Answers, answers_keep, answers_line, answers_served, servers_aside, sends_board}
+use Rattle.fibs_game.proofs.acts.Client.{Does, does, given, there_none}
+use Rattle.fibs_game.proofs.acts.Server.{Answers, answers_keep, answers_line, answers_served, servers_aside, sends_board}
 use Rattle.fibs_game.proofs.Steps.{adds}
 use Rattle.fibs_game.proofs.past.Lists.{same_number, other_number, and_both, last_snoc, map_more, map_no_more}
 use Rattle.fibs_game.proofs.past.Past.{open_append}

@@ -18,7 +18,7 @@ use Rattle.fibs_game.specs.Game.{Game, Flags, Says, welcomes, informs, shows, sa
 use Rattle.fibs_game.specs.Lawful.{Lawful, NoReturn}
 use Rattle.fibs_game.specs.Talks.{IsWorld}
 use Rattle.fibs_game.specs.Events.{Deliver}
-use Rattle.fibs_game.proofs.ServerActs.{sends_board, sends_log, answers_keep, answers_served}
+use Rattle.fibs_game.proofs.acts.Server.{sends_board, sends_log, answers_keep, answers_served}
 use Rattle.fibs_game.proofs.past.Lists.{same_number, other_number, and_left, and_right, map_more, map_no_more, to_list}
 use Rattle.fibs_game.proofs.past.Past.{open_append}
 use Rattle.fibs_game.proofs.past.Words.{own}

@@ -27,8 +27,8 @@ use Rattle.fibs_game.proofs.Steps.{Fits, fits}
 use Rattle.fibs_game.proofs.past.Lists.{other_number, and_both}
 use Rattle.fibs_game.proofs.wires.Boards.{Whole, boards, gained_none, gained_more}
 use Rattle.fibs_game.proofs.wires.Ways.{way_served}
-use Rattle.fibs_game.proofs.ClientActs.{Does, does, given, lines_at}
-use Rattle.fibs_game.proofs.ServerActs.{answers_served}
+use Rattle.fibs_game.proofs.acts.Client.{Does, does, given, lines_at}
+use Rattle.fibs_game.proofs.acts.Server.{answers_served}
 use Rattle.fibs_game.proofs.joint.EachEvent.{joint_after, joint_start}
 use Rattle.fibs_game.proofs.Refusing.{served}
 use Rattle.fibs_game.proofs.Sound.{sound_after, sound_all, sound_start}

@@ -26,8 +26,8 @@ use Rattle.fibs_game.proofs.Final.{kept, told_start}
 use Rattle.fibs_game.proofs.past.Lists.{same_number, and_both}
 use Rattle.fibs_game.proofs.past.Past.{open_append}
 use Rattle.fibs_game.proofs.joint.Acting.{only_here}
-use Rattle.fibs_game.proofs.ClientActs.{Does, does, does_nothing, given, lines_at}
-use Rattle.fibs_game.proofs.ServerActs.{Answers, answers_keep, answers_line, answers_served}
+use Rattle.fibs_game.proofs.acts.Client.{Does, does, does_nothing, given, lines_at}
+use Rattle.fibs_game.proofs.acts.Server.{Answers, answers_keep, answers_line, answers_served}
 use Rattle.fibs_game.proofs.joint.EachEvent.{over_events, joint_start}
 use Rattle.fibs_game.proofs.Refusing.{served, is_open, is_closed}
 use Rattle.fibs_game.proofs.Sound.{sound_start}
