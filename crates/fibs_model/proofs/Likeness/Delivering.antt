@@ -17,7 +17,7 @@ use Rattle.fibs_model.specs.WorldOf.{WorldValue, StandsFor, Goes, May}
 use Rattle.fibs_game.specs.declared.world_refusal.WorldRefusal.TheVariants.{NotOpen}
 use Rattle.fibs_model.specs.declared.world.link.Link as C
 use Rattle.fibs_session.specs.Fibs.{fibs}
-use Rattle.fibs_game.proofs.ClientActs.{does}
+use Rattle.fibs_game.proofs.acts.Client.{does}
 use Rattle.fibs_game.proofs.Refusing.{is_open}
 use Rattle.fibs_lines.proofs.EndsCounted.{ends}
 use Rattle.fibs_model.proofs.Likeness.Events.{current_known, client_after, sound_after}

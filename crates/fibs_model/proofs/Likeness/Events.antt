@@ -15,7 +15,7 @@ use Rattle.fibs_model.specs.WorldOf.{WorldValue, StandsFor, IsKept, world_of, Go
 use Rattle.fibs_model.specs.EntryOf.{entry_of}
 use Rattle.fibs_model.specs.declared.entry.Entry as C
 use Rattle.fibs_model.specs.declared.world.World.TheInside.{Inside}
-use Rattle.fibs_game.proofs.ClientActs.{talk_path}
+use Rattle.fibs_game.proofs.acts.Client.{talk_path}
 use Rattle.fibs_game.proofs.Sound.{talk_is_projected}
 use Rattle.fibs_game.proofs.Talks.{AllServers, Steps, Silence, Follows}
 
