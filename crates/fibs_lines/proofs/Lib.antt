@@ -13,3 +13,4 @@ pub mod SentLemmas
 pub mod EndsCounted
 pub mod LineEnds
 pub mod WindowLemmas
+mod QuestionsLemmas

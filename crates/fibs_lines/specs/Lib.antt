@@ -5,5 +5,7 @@ pub mod LinesValue
 pub mod Feeding
 pub mod Literal
 pub mod StreamLaws
+pub mod Questions
 -- What only private functions say.
 pub mod Progress
+pub mod QuestionsSteps

@@ -8,7 +8,8 @@
 //! 3. The first `LIMIT` bytes of a line are kept. It is cut if there are more.
 //! 4. The prompts `login: ` and `> ` at the start of what is kept are removed, as often as one of them is there.
 //!
-//! `Lines` is the reader. `laws` states what holds of every stream, for proofs in the crates above.
+//! `Lines` is the reader. `laws` states what holds of every stream, for proofs in the crates above. `Questions` tells a
+//! login that is refused, which no line does.
 #![tactic(auto)]
 
 pub mod laws;
@@ -17,6 +18,7 @@ mod line_buffer;
 mod lines;
 mod literal;
 mod prompts;
+mod questions;
 mod sent;
 mod telnet;
 mod unfinished;
@@ -24,6 +26,7 @@ mod unfinished;
 pub use line::{Line, without_return};
 pub use lines::{Fed, Lines, WholeLine};
 pub use prompts::LOGIN_PROMPT;
+pub use questions::Questions;
 pub use sent::sent_line;
 
 /// How many bytes of a line are kept. The definitions have the same number, as `kept_limit`.
