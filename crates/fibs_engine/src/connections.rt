@@ -2,9 +2,8 @@
 //! keep a log.
 
 mod alive;
-pub mod attention;
 pub mod dial;
 pub mod link;
 pub mod logging;
 pub mod pacing;
-pub mod questions;
+pub mod refusing;

@@ -9,14 +9,15 @@ mod connections;
 pub mod escape;
 pub mod fault;
 pub mod fixed;
+mod input;
 pub mod limits;
 pub mod line_printer;
 pub mod malformed;
 pub mod noting;
-pub mod retrying;
 pub mod standard;
 pub mod status;
 pub mod stream_fault;
+pub mod streams;
 pub mod writing;
 
-pub use connections::{attention, dial, link, logging, pacing, questions};
+pub use connections::{dial, link, logging, pacing, refusing};

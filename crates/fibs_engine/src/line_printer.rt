@@ -1,28 +1,36 @@
 //! What is printed for a stream: a text for each of its lines, one portion after the other.
-ghost use Rattle.std.specs.Prelude.{◌≡◌, ◌≤◌, ◌<◌, ◌*◌, ◌⊎◌, ◌++◌, ◌∷◌, ℕ, List, [], length, take, IfOk, OnOk, IfErr, IsErrOf};
+ghost use Rattle.std.specs.Prelude.{◌≡◌, ◌≤◌, ◌<◌, ◌*◌, ◌⊎◌, ◌++◌, ℕ, List, [], length, take, IfOk, OnOk, IfErr, IsErrOf};
 ghost use Rattle.std.specs.Io.KnownBytes.{Appends, IsAtEnd};
-ghost use Rattle.fibs_lines.specs.Lines.{ReadLine, value_of};
 ghost use Rattle.fibs_engine.specs.Reads.{LostAtLeast, LostAtMost};
-ghost use Rattle.fibs_engine.specs.Streams.{TextGains, EndText, WroteAll, WroteRead, WroteLinesOf, WroteFront};
+ghost use Rattle.fibs_engine.specs.Streams.{TextGoesOn, Hears, EndText, MayEnd, WroteAll, WroteRead, WroteLinesOf, WroteFront};
 ghost use Rattle.fibs_engine.specs.Writing.{GainedFront};
 
 use crate::stream_fault::StreamFault;
 use crate::writing::write_bytes;
-use fibs_lines::{Line, Lines, laws};
+use fibs_lines::{Fed, Lines};
 use std::alloc::{AllocError, Global};
 use std::io::{Read, Write};
 
 /// What is printed for the lines of a stream, and at its end.
 pub trait LinePrinter {
-    // The text is what is printed for the line, without its line end.
-    ghost prints: { ReadLine → List ℕ → Type 0 };
+    // The printer has read these bytes of a stream.
+    ghost reads: { Self → List ℕ → Type 0 };
 
-    // What is printed at the end of a stream, if so many bytes follow its last line end.
-    ghost ends: { ℕ → List ℕ };
+    // What is printed for the lines of a stream, each with its line end.
+    ghost prints: { List ℕ → List ℕ → Type 0 };
+
+    // What is printed at the end of a stream.
+    ghost ends: { List ℕ → List ℕ → Type 0 };
+
+    /// Begins a stream, of which nothing is read yet. Whatever is read then, something may be printed at its end.
+    fn begin(&mut self)
+        ensures reads { reads self.new [] }
+        ensures prints { prints [] [] }
+        ensures may_end { MayEnd Self reads ends };
 
     /// Appends what is printed for the lines that are whole in the piece, from its front, up to one for which it takes
-    /// `append_line`, and answers how many bytes they have. A printer that has no shorter way for such lines takes
-    /// `append_line` for all.
+    /// `append_piece`, and answers how many bytes they have. A printer that has no shorter way for such lines takes
+    /// `append_piece` for all.
     fn append_whole_lines(
         &mut self,
         _lines: &Lines,
@@ -30,20 +38,28 @@ pub trait LinePrinter {
         _text: &mut Vec<u8>,
     ) -> Result<usize, AllocError>
         ensures range { IfOk result (λ used. used ≤ length _piece.now) }
-        ensures gains { IfOk result (λ used. TextGains prints _lines.now _lines.now (take used _piece.now)
-            _text.old.items _text.new.items) }
+        ensures goes_on { IfOk result (λ used. TextGoesOn reads prints _lines.now _lines.now self.old self.new
+            (take used _piece.now) _text.old.items _text.new.items) }
     {
         Ok(0)
     }
 
-    /// Appends what is printed for a line, and a line end.
-    fn append_line(&mut self, line: &Line<'_>, text: &mut Vec<u8>) -> Result<(), AllocError>
-        ensures { OnOk result ((shown : List ℕ) × prints (value_of line.now) shown
-            × (text.new.items ≡ text.old.items ++ (shown ++ (10 ∷ [])))) };
+    /// Appends what is printed for the line, with its line end, that was lent for the piece, if one was. It is told of
+    /// every byte of the stream: by a call here, or as one of the whole lines.
+    fn append_piece(
+        &mut self,
+        piece: &[u8],
+        fed: &Fed<'_>,
+        text: &mut Vec<u8>,
+    ) -> Result<(), AllocError>
+        requires { fed.now.used ≤ length piece.now }
+        ensures { OnOk result ((added : List ℕ) × (text.new.items ≡ text.old.items ++ added)
+            × Hears reads prints self.old self.new piece.now fed.now added) };
 
-    /// Appends what is printed at the end of a stream, if so many bytes follow its last line end.
-    fn append_end(&mut self, held: usize, text: &mut Vec<u8>) -> Result<(), AllocError>
-        ensures { OnOk result (text.new.items ≡ text.old.items ++ ends held) };
+    /// Appends what is printed at the end of a stream, of which this is the reader of lines.
+    fn append_end(&mut self, lines: &Lines, text: &mut Vec<u8>) -> Result<(), AllocError>
+        ensures { OnOk result ((ending : List ℕ) × (text.new.items ≡ text.old.items ++ ending)
+            × EndText reads ends lines.now self.old ending) };
 }
 
 /// Prints a text for each line that is read, to the reader's end, with at most so many reads, each of at most as many
@@ -80,7 +96,7 @@ pub fn print_stream<P: LinePrinter, R: Read, W: Write>(
 {
     let mut lines = Lines::new();
     let mut text = Vec::new(alloc);
-    laws::empty_stream_has_no_line();
+    printer.begin();
     for made in 0..reads {
         let count = match reader.read(portion) {
             Ok(0) => return finish(printer, &lines, &mut text, writer),
@@ -102,15 +118,15 @@ fn finish<P: LinePrinter, W: Write>(
     writer: &mut W,
 ) -> Result<(), StreamFault>
     requires { text.old.items ≡ [] }
-    ensures ok { OnOk result ((ending : List ℕ) × EndText P.ends lines.now ending
+    ensures ok { OnOk result ((ending : List ℕ) × EndText P.reads P.ends lines.now printer.old ending
         × Appends (W.contents writer.old) (W.contents writer.new) ending) }
     ensures writer { IsErrOf result StreamFault.Writer →
-        (ending : List ℕ) × EndText P.ends lines.now ending
+        (ending : List ℕ) × EndText P.reads P.ends lines.now printer.old ending
         × GainedFront (W.contents writer.old) (W.contents writer.new) ending }
     ensures memory { IsErrOf result StreamFault.Memory → W.contents writer.new ≡ W.contents writer.old }
     ensures others { IfErr result (λ fault. (fault ≡ StreamFault.Writer) ⊎ (fault ≡ StreamFault.Memory)) }
 {
-    printer.append_end(lines.held(), text)?;
+    printer.append_end(lines, text)?;
     write_bytes(text.as_slice(), writer)?;
     Ok(())
 }
@@ -125,15 +141,12 @@ fn append_fed<P: LinePrinter>(
 ) -> Result<usize, AllocError>
     requires { 0 < length piece.now }
     ensures range { IfOk result (λ used. (0 < used) × (used ≤ length piece.now)) }
-    ensures gains { IfOk result (λ used. TextGains P.prints lines.old lines.new (take used piece.now)
-        text.old.items text.new.items) }
+    ensures goes_on { IfOk result (λ used. TextGoesOn P.reads P.prints lines.old lines.new printer.old printer.new
+        (take used piece.now) text.old.items text.new.items) }
 {
     let fed = lines.feed(piece);
     let used = fed.used;
-    match fed.line {
-        Some(line) => printer.append_line(&line, text)?,
-        None => {}
-    }
+    printer.append_piece(piece, &fed, text)?;
     Ok(used)
 }
 
@@ -147,8 +160,8 @@ fn append_next<P: LinePrinter>(
 ) -> Result<usize, AllocError>
     requires { 0 < length piece.now }
     ensures range { IfOk result (λ used. (0 < used) × (used ≤ length piece.now)) }
-    ensures gains { IfOk result (λ used. TextGains P.prints lines.old lines.new (take used piece.now)
-        text.old.items text.new.items) }
+    ensures goes_on { IfOk result (λ used. TextGoesOn P.reads P.prints lines.old lines.new printer.old printer.new
+        (take used piece.now) text.old.items text.new.items) }
 {
     let whole = printer.append_whole_lines(lines, piece, text)?;
     if whole == piece.len() {
@@ -165,7 +178,8 @@ fn append_portion<P: LinePrinter>(
     portion: &[u8],
     text: &mut Vec<u8>,
 ) -> Result<(), AllocError>
-    ensures { OnOk result (TextGains P.prints lines.old lines.new portion.now text.old.items text.new.items) }
+    ensures { OnOk result (TextGoesOn P.reads P.prints lines.old lines.new printer.old printer.new portion.now
+        text.old.items text.new.items) }
 {
     let mut rest = portion;
     while !rest.is_empty() {

@@ -5,7 +5,6 @@ ghost use Rattle.std.specs.Io.{ReadsAtMost, WritesAtMost};
 ghost use Rattle.std.specs.Io.KnownBytes.{Keeps, ReadConsumes, WriteAppends};
 ghost use Rattle.fibs_engine.specs.Writing.{Wrote, progress_of};
 
-use crate::retrying::{read_retrying, write_retrying};
 use crate::writing::Unwritten;
 use std::io;
 use std::io::{ErrorKind, Read, Write};
@@ -28,7 +27,8 @@ pub trait Link: Read + Write {
         ensures apart { Keeps (Self.remaining self.old) (Self.remaining self.new) };
 }
 
-/// A read that waits for the server is interrupted if the program was stopped and goes on. That ends no connection.
+/// A signal, as when a program that was stopped goes on, can interrupt a call that waits. Nothing was read or written
+/// then, and no connection has ended.
 impl Link for TcpStream {
     fn receive(&mut self, buf: &mut [u8]) -> io::Result<usize> {
         read_retrying(self, buf)
@@ -37,6 +37,44 @@ impl Link for TcpStream {
     fn transmit(&mut self, buf: &[u8]) -> io::Result<usize> {
         write_retrying(self, buf)
     }
+}
+
+/// How often a call that is interrupted each time is made again, before its error counts as any other.
+pub const RETRIES: u32 = 1000;
+
+/// Whether a signal interrupted the call.
+fn is_interrupted(error: &io::Error) -> bool
+    ensures { IsTrue result ↔ (error_kind error.now ≡ ErrorKind.Interrupted) }
+{
+    error.kind() == ErrorKind::Interrupted
+}
+
+/// Reads as `read` does, and again if a signal interrupts it.
+pub(crate) fn read_retrying<R: Read>(reader: &mut R, buf: &mut [u8]) -> io::Result<usize>
+    ensures bound { ReadsAtMost result buf.new }
+    ensures bytes { ReadConsumes (R.remaining reader.old) (R.remaining reader.new) result buf.new }
+{
+    for _ in 0..RETRIES {
+        match reader.read(buf) {
+            Err(error) if is_interrupted(&error) => {}
+            answer => return answer,
+        }
+    }
+    reader.read(buf)
+}
+
+/// Writes as `write` does, and again if a signal interrupts it.
+pub(crate) fn write_retrying<W: Write>(writer: &mut W, buf: &[u8]) -> io::Result<usize>
+    ensures bound { WritesAtMost result buf.now }
+    ensures bytes { WriteAppends (W.contents writer.old) (W.contents writer.new) result buf.now }
+{
+    for _ in 0..RETRIES {
+        match writer.write(buf) {
+            Err(error) if is_interrupted(&error) => {}
+            answer => return answer,
+        }
+    }
+    writer.write(buf)
 }
 
 /// Whether a read gave nothing because nothing has come yet. Each other error of a read ends a connection.

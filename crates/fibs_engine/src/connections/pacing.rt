@@ -3,17 +3,72 @@
 ghost use Rattle.std.specs.Prelude.{◌≤◌, length, IfSome};
 ghost use Rattle.std.specs.Io.{ReadsAtMost};
 
-use crate::attention::{Attention, Pace};
 use crate::dial::{Dial, TcpDial};
 use crate::limits::READ_PORTION;
 use crate::link::{Link, is_quiet};
-use crate::questions::Questions;
 use arrayvec::ArrayVec;
-use fibs_lines::{LOGIN_PROMPT, Lines};
+use fibs_lines::{LOGIN_PROMPT, Lines, Questions};
+use libc::net::{POLLHUP, POLLIN, poll};
+use libc::types::pollfd;
 use std::io;
 use std::io::{ErrorKind, Read, Write};
 use std::net::{Net, TcpStream};
-use std::os::fd::AsRawFd;
+use std::os::fd::{AsRawFd, RawFd};
+
+/// How long a read of a server waits, and what ends that wait.
+#[derive(Clone, Copy)]
+pub struct Pace {
+    /// How many milliseconds at most.
+    pub millis: u64,
+    /// The descriptor of what is typed, if it is a terminal.
+    pub typed: Option<RawFd>,
+}
+
+/// The longest wait, in milliseconds.
+const MOST_MILLIS: u64 = 60_000;
+
+/// A connection to a server, and what is typed meanwhile.
+#[derive(Clone, Copy)]
+pub struct Attention {
+    heard: RawFd,
+    typed: RawFd,
+    millis: i32,
+}
+
+/// What is asked of a descriptor: whether it can be read.
+fn asked(fd: RawFd) -> pollfd {
+    pollfd {
+        fd,
+        events: POLLIN,
+        revents: 0,
+    }
+}
+
+impl Attention {
+    /// Both, if what is typed can be waited for.
+    pub fn new(heard: RawFd, pace: Pace) -> Option<Attention> {
+        Some(Attention {
+            heard,
+            typed: pace.typed?,
+            millis: pace.millis.min(MOST_MILLIS) as i32,
+        })
+    }
+
+    /// Waits for the server, as long as its pace says, and no longer than until something is typed. Whether it may be
+    /// read: it has spoken, and if it was heard just before, nothing is typed. If the system can't wait for both, a
+    /// read waits by itself.
+    pub fn may_read(&self, was_heard: bool) -> bool {
+        let mut both = [asked(self.heard), asked(self.typed)];
+        let count = poll(&mut both, self.millis);
+        let [heard, typed] = both;
+        let is_typed = typed.revents & (POLLIN | POLLHUP) != 0;
+        if heard.revents != 0 {
+            !(was_heard && is_typed)
+        } else {
+            count != 0 && !is_typed
+        }
+    }
+}
 
 /// How often a server is read before the program looks at what was typed meanwhile.
 const READS_AT_ONCE: u32 = 64;
@@ -136,22 +191,17 @@ impl<S: Link + Drop> Paced<S> {
         self.has_sent = false;
     }
 
-    /// Waits for the server, and says whether it may be read: not if something is typed, or it is quiet.
-    fn may_read(&self) -> bool {
-        match &self.attention {
-            Some(attention) if !self.has_sent => attention.may_read(self.reads > 1),
-            _ => true,
-        }
-    }
-
-    /// Reads what has come, or what comes before the server is quiet, or something is typed.
+    /// Reads what has come, or what comes before the server is quiet; not if something is typed, unless something was
+    /// sent.
     fn receive_soon(&mut self, buf: &mut [u8]) -> io::Result<usize>
         ensures { ReadsAtMost result buf.new }
     {
-        if !self.may_read() {
-            return Err(io::Error::from(ErrorKind::WouldBlock));
+        match &self.attention {
+            Some(attention) if !self.has_sent && !attention.may_read(self.reads > 1) => {
+                Err(io::Error::from(ErrorKind::WouldBlock))
+            }
+            _ => self.stream.receive(buf),
         }
-        self.stream.receive(buf)
     }
 
     /// Waits for the answer to a login. If the server asks once more instead, what it said before is the answer.

@@ -1,10 +1,10 @@
 use Rattle.std.proofs.Common.{[], sym, append-nil}
-use Rattle.fibs_engine.proofs.StreamLemmas.{gains_nothing}
+use Rattle.fibs_engine.proofs.StreamLemmas.{goes_nowhere}
 use Rattle.fibs_engine.proofs.line_printer.LinePrinter.append_whole_lines.Goals as goal
 
-pub returns-clause-gains : goal.returns-clause-gains
-returns-clause-gains g c = (
+pub returns-clause-goes_on : goal.returns-clause-goes_on
+returns-clause-goes_on g c = (
   [],
   sym (append-nil c.args._text.now.items),
-  gains_nothing g.Self.LinePrinter.prints c.args._lines.now,
+  goes_nowhere g.Self.LinePrinter.reads g.Self.LinePrinter.prints c.args._lines.now c.args.self.now,
 )

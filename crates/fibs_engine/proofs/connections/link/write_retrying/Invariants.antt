@@ -1,5 +1,5 @@
 use Rattle.std.specs.Io.KnownBytes.{Keeps}
-use Rattle.fibs_engine.proofs.retrying.write_retrying.Given as goal
+use Rattle.fibs_engine.proofs.connections.link.write_retrying.Given as goal
 
 -- a write that is interrupted appended nothing
 abbrev pub invariant-loop : goal.invariant-loop

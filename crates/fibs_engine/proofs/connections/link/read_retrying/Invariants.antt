@@ -1,6 +1,6 @@
 use Rattle.std.proofs.Common.{◌≡◌, length}
 use Rattle.std.specs.Io.KnownBytes.{Keeps}
-use Rattle.fibs_engine.proofs.retrying.read_retrying.Given as goal
+use Rattle.fibs_engine.proofs.connections.link.read_retrying.Given as goal
 
 -- a read that is interrupted consumed nothing
 abbrev pub invariant-loop : goal.invariant-loop
