@@ -18,6 +18,7 @@ mod players;
 pub mod printing;
 pub mod said;
 mod seat;
+pub mod showing;
 pub mod turns;
 mod typed;
 pub mod waiting;

@@ -1,5 +1,5 @@
 //! Commands are written to the server.
-ghost use Rattle.std.specs.Prelude.{◌≡◌, ◌≤◌, ◌+◌, length};
+ghost use Rattle.std.specs.Prelude.{◌≤◌, ◌+◌, length};
 ghost use Rattle.std.specs.Io.KnownBytes.{Keeps};
 ghost use Rattle.fibs_commands.specs.TextOf.{text_of};
 ghost use Rattle.fibs_session.specs.History.Machine.{on_wire, wire_of};
@@ -23,17 +23,6 @@ type PassedLine = ArrayVec<u8, PASSED_ROOM>;
 /// Room for the longest line that may be typed, and its line end.
 const PASSED_ROOM: usize = TYPED_LIMIT + 2;
 
-/// A command and its line end, in one piece.
-fn wire_line<const N: usize>(command: &ArrayString<N>) -> WireLine
-    requires { N ≤ 512 }
-    ensures { result.items ≡ on_wire (text_of command.now) }
-{
-    let mut line = ArrayVec::new();
-    append(&mut line, text_bytes(command));
-    append(&mut line, b"\r\n");
-    line
-}
-
 /// Writes a command and its line end, by one write if the stream takes all of it.
 pub(crate) fn send_command<S: Link, const N: usize>(
     command: &ArrayString<N>,
@@ -44,7 +33,10 @@ pub(crate) fn send_command<S: Link, const N: usize>(
         (on_wire (text_of command.now)) }
     ensures apart { Keeps (S.remaining stream.old) (S.remaining stream.new) }
 {
-    send_bytes(wire_line(command).as_slice(), stream)
+    let mut line = WireLine::new();
+    append(&mut line, text_bytes(command));
+    append(&mut line, b"\r\n");
+    send_bytes(line.as_slice(), stream)
 }
 
 /// Writes the commands in order.

@@ -5,7 +5,6 @@ ghost use Rattle.fibs_session.specs.History.Machine.{Talk};
 ghost use Rattle.fibs_session.specs.Calls.Standing.{StandsAfter};
 ghost use Rattle.fibs_messages.specs.Message.{MessageValue};
 ghost use Rattle.fibs_session.specs.Typing.{typed_now};
-ghost use Rattle.fibs_session.specs.TypedOf.{typed_value};
 ghost use Rattle.fibs_connect.specs.Turns.Answering.{answered_act, Goes};
 ghost use Rattle.fibs_connect.specs.Turns.Script.{Did, outside};
 ghost use Rattle.fibs_connect.specs.Turns.Turn.{FitsStream};
@@ -30,18 +29,18 @@ enum Answer {
     Told(Said<'static>),
 }
 
-/// What the client answers.
-fn answer_typed(client: &mut Client, typed: &Typed<'_>) -> Answer
+/// What the client answers to a line that was typed.
+fn answer_text(client: &mut Client, text: &[u8]) -> Answer
     ensures stands { (t : Talk) → StandsAfter client.old t →
-        StandsAfter client.new (typed_step t (typed_value typed.now)).talk }
-    ensures act { (t : Talk) → StandsAfter client.old t → answered_act result ≡ typed_act t (typed_value typed.now) }
+        StandsAfter client.new (typed_step t (typed_now t text.now)).talk }
+    ensures act { (t : Talk) → StandsAfter client.old t → answered_act result ≡ typed_act t (typed_now t text.now) }
 {
-    match typed {
-        Typed::Decision(decision) => match client.decide(decision) {
+    match read_typed(client, text) {
+        Typed::Decision(decision) => match client.decide(&decision) {
             Ok(command) => Answer::Sent(command),
             Err(why) => Answer::Told(Said::Refused(why)),
         },
-        Typed::Plain(plain) => match client.plain(plain) {
+        Typed::Plain(plain) => match client.plain(&plain) {
             Ok(command) => Answer::Sent(command),
             Err(why) => Answer::Told(Said::NotSent(why)),
         },
@@ -55,16 +54,6 @@ fn answer_typed(client: &mut Client, typed: &Typed<'_>) -> Answer
         },
         Typed::Unknown => Answer::Told(Said::Unknown),
     }
-}
-
-/// What the client answers to a line that was typed.
-fn answer_text(client: &mut Client, text: &[u8]) -> Answer
-    ensures stands { (t : Talk) → StandsAfter client.old t →
-        StandsAfter client.new (typed_step t (typed_now t text.now)).talk }
-    ensures act { (t : Talk) → StandsAfter client.old t → answered_act result ≡ typed_act t (typed_now t text.now) }
-{
-    let typed = read_typed(client, text);
-    answer_typed(client, &typed)
 }
 
 /// Does what a typed line asks for: its command is written, and then reported as sent.
