@@ -25,21 +25,24 @@ unfinished_text held = if held == 0 then [] else codes "unfinished " ++ (decimal
 
 -- a reader was read to its end, and a writer gained all that is printed for its bytes
 abbrev pub WroteAll : Option (List ℕ) → Option (List ℕ) → Option (List ℕ) → Option (List ℕ) → Type 0
-WroteAll left still_left held now = streams.WroteAll ShownLine unfinished_text left still_left held now
+WroteAll left still_left held now =
+    streams.WroteAll (streams.EachLine ShownLine) (streams.LeftOver unfinished_text) left still_left held now
 
 -- a reader lost the bytes s and then `more`, and a writer gained just what is printed for the lines of s
 abbrev pub WroteLinesOf : List ℕ → List ℕ → Option (List ℕ) → Option (List ℕ) → Option (List ℕ) → Option (List ℕ)
     → Type 0
-WroteLinesOf s more left still_left held now = streams.WroteLinesOf ShownLine s more left still_left held now
+WroteLinesOf s more left still_left held now =
+    streams.WroteLinesOf (streams.EachLine ShownLine) s more left still_left held now
 
 -- a writer gained just what is printed for the lines of all that was read
 abbrev pub WroteRead : Option (List ℕ) → Option (List ℕ) → Option (List ℕ) → Option (List ℕ) → Type 0
-WroteRead left still_left held now = streams.WroteRead ShownLine left still_left held now
+WroteRead left still_left held now = streams.WroteRead (streams.EachLine ShownLine) left still_left held now
 
 -- a writer gained just what is printed for the lines of some front of what was read
 abbrev pub WroteLines : Option (List ℕ) → Option (List ℕ) → Option (List ℕ) → Option (List ℕ) → Type 0
-WroteLines left still_left held now = streams.WroteLines ShownLine left still_left held now
+WroteLines left still_left held now = streams.WroteLines (streams.EachLine ShownLine) left still_left held now
 
 -- a writer gained a front of what is printed for what was read, and at least one byte of it is missing
 abbrev pub WroteFront : Option (List ℕ) → Option (List ℕ) → Option (List ℕ) → Option (List ℕ) → Type 0
-WroteFront left still_left held now = streams.WroteFront ShownLine unfinished_text left still_left held now
+WroteFront left still_left held now =
+    streams.WroteFront (streams.EachLine ShownLine) (streams.LeftOver unfinished_text) left still_left held now

@@ -2,7 +2,7 @@
 ghost use Rattle.std.specs.Prelude.{◌≡◌, ◌≤◌, ◌<◌, ◌*◌, ◌⊎◌, ◌++◌, ℕ, List, length, take, IfOk, OnOk, IsErrOf};
 ghost use Rattle.std.specs.Io.KnownBytes.{IsAtEnd};
 ghost use Rattle.fibs_engine.specs.Reads.{LostAtLeast, LostAtMost};
-ghost use Rattle.fibs_engine.specs.Streams.{Gains, TextGains};
+ghost use Rattle.fibs_engine.specs.Streams.{EachLine, Gains, LeftOver, TextGains};
 ghost use Rattle.fibs_show.specs.Show.{ShownLine, unfinished_text, WroteAll, WroteRead, WroteLines, WroteLinesOf, WroteFront};
 
 use crate::line::{append_line, put_line};
@@ -13,7 +13,7 @@ use fibs_engine::line_printer::{LinePrinter, print_stream};
 use fibs_engine::status::Status;
 use fibs_engine::stream_fault::StreamFault;
 use fibs_fields::decimal::append_number;
-use fibs_lines::{Line, Lines};
+use fibs_lines::{Fed, Lines};
 use std::alloc::{AllocError, Global};
 use std::io::{Read, Write};
 
@@ -88,9 +88,13 @@ struct Texts {
 }
 
 impl LinePrinter for Texts {
-    ghost prints = { ShownLine };
+    ghost reads = { λ _ _. Unit {0} };
 
-    ghost ends = { unfinished_text };
+    ghost prints = { EachLine ShownLine };
+
+    ghost ends = { LeftOver unfinished_text };
+
+    fn begin(&mut self) {}
 
     fn append_whole_lines(
         &mut self,
@@ -103,12 +107,20 @@ impl LinePrinter for Texts {
         Ok(put)
     }
 
-    fn append_line(&mut self, line: &Line<'_>, text: &mut Vec<u8>) -> Result<(), AllocError> {
-        append_line(self.alloc, line, text)
+    fn append_piece(
+        &mut self,
+        _piece: &[u8],
+        fed: &Fed<'_>,
+        text: &mut Vec<u8>,
+    ) -> Result<(), AllocError> {
+        match &fed.line {
+            Some(line) => append_line(self.alloc, line, text),
+            None => Ok(()),
+        }
     }
 
-    fn append_end(&mut self, held: usize, text: &mut Vec<u8>) -> Result<(), AllocError> {
-        append_unfinished(held, text)
+    fn append_end(&mut self, lines: &Lines, text: &mut Vec<u8>) -> Result<(), AllocError> {
+        append_unfinished(lines.held(), text)
     }
 }
 
