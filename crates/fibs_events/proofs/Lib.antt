@@ -1,2 +1,4 @@
+mod AskingLemmas
 mod FindingLemmas
+mod ListedLemmas
 mod TurningLemmas

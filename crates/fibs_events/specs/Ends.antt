@@ -1,8 +1,11 @@
 -- What boards of the user's game show of the cube, and of the ends of games and matches (FIBS board style 3).
-use Rattle.std.specs.Prelude.{◌≡◌, ◌≤◌, ◌<◌, ◌+◌, ◌*◌, ◌==◌, ◌&&◌, ◌⊎◌, ℕ, List, [], ◌∷◌, Option, Some, None, if◌then◌else◌}
+use Rattle.std.specs.Prelude.{◌≡◌, ◌≤◌, ◌<◌, ◌+◌, ◌*◌, ◌==◌, ◌&&◌, ◌||◌, ◌⊎◌, ℕ, Bool, true, false, not, List, [], ◌∷◌, Option, Some, None, pos, nat_le, if◌then◌else◌}
+use Rattle.std.specs.Ordering.{int_eq}
+use Rattle.std.specs.Str.{bytes_eq}
 use Rattle.fibs_fields.specs.Board.{BoardFields, field_of}
 use Rattle.fibs_fields.specs.FieldReading.{natural}
 use Rattle.fibs_position.specs.Phases.{phase_of}
+use Rattle.fibs_position.specs.declared.phase.Phase.{Phase}
 use Rattle.fibs_position.specs.declared.phase.Phase.TheVariants as P
 use Rattle.fibs_position.specs.declared.stake.Stake.{Stake}
 use Rattle.fibs_position.specs.declared.stake.Stake.TheVariants as K
@@ -68,6 +71,37 @@ worth_of points cube =
     else if points == cube * 3 then Some K.Backgammon
     else None
 
+-- what points are on the cube of a board, if one is known
+abbrev pub worth_in : ℕ → Option BoardFields → Option Stake
+worth_in points None = None
+worth_in points (Some b) = worth_of points (cube_of b)
+
+-- both sides have as many points on two boards
+abbrev pub is_same_score : BoardFields → BoardFields → Bool
+is_same_score a b = (score_of S.Own a == score_of S.Own b) && (score_of S.Other a == score_of S.Other b)
+
+-- two boards are of matches with the same opponent, and of the same length
+abbrev pub is_alike : BoardFields → BoardFields → Bool
+is_alike a b = bytes_eq a.opponent b.opponent && int_eq (field_of a 4) (field_of b 4)
+
+-- nobody has lost points between two boards
+abbrev pub keeps_points : BoardFields → BoardFields → Bool
+keeps_points a b = nat_le (score_of S.Own a) (score_of S.Own b) && nat_le (score_of S.Other a) (score_of S.Other b)
+
+-- a board can be of the match of the one before it
+abbrev pub is_same_match : BoardFields → BoardFields → Bool
+is_same_match a b = is_alike a b && keeps_points a b
+
+-- in this phase the game is over
+abbrev pub is_over : Phase → Bool
+is_over P.Over = true
+is_over phase = false
+
+-- a board is of another game than the one before it, by whether the end of that one was told
+abbrev pub is_next_game : BoardFields → BoardFields → Bool → Bool
+is_next_game a b was_over =
+    not (is_over (phase_of b)) && (was_over || (is_over (phase_of a) || not (is_same_score a b)))
+
 -- a game was won between two boards: the winner has its points more, the other side as many as before
 pub record GameWon (before after : BoardFields) (won : Won) : Type 0 where
   pub some : 0 < won.points
@@ -79,6 +113,12 @@ pub record GameWon (before after : BoardFields) (won : Won) : Type 0 where
 abbrev pub WonFrom : Option BoardFields → BoardFields → Won → Type 0
 WonFrom None after won = ⊥
 WonFrom (Some before) after won = GameWon before after won
+
+-- a board shows no end of a match: it is unlimited, or neither side has as many points
+abbrev pub NoMatchWon : BoardFields → Type 0
+NoMatchWon b =
+    (field_of b 4 ≡ pos 9999)
+    ⊎ ((score_of S.Own b < natural (field_of b 4)) × (score_of S.Other b < natural (field_of b 4)))
 
 -- a board shows the end of a match: its length and its scores, and the winner has as many points
 pub record MatchWon (b : BoardFields) (won : WonMatch) : Type 0 where

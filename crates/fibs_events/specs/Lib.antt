@@ -5,5 +5,10 @@ pub mod Played
 pub mod Ends
 pub mod Happenings
 pub mod Known
+pub mod Remembered
+pub mod Reported
+pub mod Listed
+pub mod Said
+pub mod Told
 pub mod Asking
 pub mod InOrder

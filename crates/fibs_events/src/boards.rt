@@ -1,14 +1,17 @@
 //! What boards say has happened.
 
-ghost use Rattle.std.specs.Prelude.{◌≡◌, IfOk, OnOk, IfSome, Some, None, Ok, true, false};
+ghost use Rattle.std.specs.Prelude.{◌≡◌, IfOk, OnOk, IfSome, IfNone, Some, None, Ok, true, false};
+ghost use Rattle.fibs_fields.specs.Board.{BoardFields};
 ghost use Rattle.fibs_fields.specs.StoredBoard.{fields_of};
 ghost use Rattle.fibs_position.specs.GameOf.{game_of};
 ghost use Rattle.fibs_position.specs.GamePart.{same_game};
 ghost use Rattle.fibs_position.specs.GoodBoard.{good};
+ghost use Rattle.fibs_position.specs.Phases.{phase_of};
+ghost use Rattle.fibs_position.specs.declared.phase.Phase.TheVariants.{Over};
 ghost use Rattle.fibs_rules.specs.PlayValue.{hops_of};
-ghost use Rattle.fibs_events.specs.Ends.{DoubleShown, DoubledFrom, GameWon, MatchWon, TakenBetween, TakenFrom, WonFrom};
-ghost use Rattle.fibs_events.specs.Happenings.{PlayedFrom, PlayedBy, RollShown, nothing};
-ghost use Rattle.fibs_events.specs.Known.{doubler_of, known_of};
+ghost use Rattle.fibs_events.specs.Ends.{DoubleShown, DoubledFrom, GameWon, MatchWon, NoMatchWon, TakenBetween, TakenFrom, WonFrom, is_next_game};
+ghost use Rattle.fibs_events.specs.Happenings.{NonePlayed, PlayedFrom, PlayedBy, RollShown, nothing};
+ghost use Rattle.fibs_events.specs.Known.{IsGoingOn, doubler_of, known_of, opponent_of};
 
 use crate::event::Side;
 use crate::happened::{Happened, Rolled, Turned, Won, WonMatch};
@@ -33,7 +36,9 @@ fn roll_on(game: &GameBoard) -> Option<Rolled>
 }
 
 /// Whether a board is of another game of the same match than the one before it.
-fn is_next_game(before: &GameBoard, game: &GameBoard, was_over: bool) -> bool {
+fn is_next_game(before: &GameBoard, game: &GameBoard, was_over: bool) -> bool
+    ensures { result ≡ is_next_game (game_of before.now) (game_of game.now) was_over }
+{
     let is_over = game.phase() == Phase::Over;
     !is_over && (was_over || before.phase() == Phase::Over || !is_same_score(before, game))
 }
@@ -42,6 +47,7 @@ impl Events {
     /// A board of the user's game has come.
     fn note_board(&mut self, game: &GameBoard)
         ensures known { known_of self.new ≡ Some (game_of game.now) }
+        ensures opponent { opponent_of self.new ≡ (game_of game.now).opponent }
     {
         self.stage = Stage::Playing;
         self.opponent = kept(game.board().opponent());
@@ -100,7 +106,9 @@ impl Events {
 
     /// The end of the match that a board shows, if it was not reported yet.
     fn note_match_end(&mut self, game: &GameBoard) -> Option<WonMatch>
-        ensures { IfSome result (λ won. MatchWon (game_of game.now) won) }
+        ensures won { IfSome result (λ won. MatchWon (game_of game.now) won) }
+        ensures none { self.old.is_won ≡ false → phase_of (game_of game.now) ≡ Over →
+            IfNone result (NoMatchWon (game_of game.now)) }
     {
         if self.is_won || game.phase() != Phase::Over {
             return None;
@@ -206,6 +214,8 @@ impl Events {
         ensures won_match { IfOk result (λ happened.
             IfSome happened.won_match (λ won. MatchWon (game_of game.now) won)) }
         ensures said { IfOk result (λ happened. happened.said ≡ None) }
+        ensures unplayed { is_next_game (game_of before.now) (game_of game.now) self.old.game.is_over ≡ false →
+            IfOk result (λ happened. IfNone happened.played (NonePlayed (game_of before.now) (game_of game.now))) }
     {
         if is_next_game(before, game, self.game.is_over) {
             return Ok(self.hear_next_game(before, game));
@@ -231,6 +241,8 @@ impl Events {
         ensures said { IfOk result (λ happened. happened.said ≡ None) }
         ensures repeated { IfSome (known_of self.old) (λ b.
             same_game b (game_of game.now) ≡ true → result ≡ Ok nothing) }
+        ensures unplayed { (before : BoardFields) → IsGoingOn self.old before (game_of game.now) →
+            IfOk result (λ happened. IfNone happened.played (NonePlayed before (game_of game.now))) }
     {
         let Some(before) = self.known else {
             return Ok(self.hear_first(game));
@@ -271,8 +283,12 @@ impl Events {
         ensures said { IfOk result (λ happened. happened.said ≡ None) }
         ensures repeated { IfSome (known_of self.old) (λ b.
             same_game b (fields_of board.now) ≡ true → result ≡ Ok nothing) }
+        ensures unplayed { (before : BoardFields) → IsGoingOn self.old before (fields_of board.now) →
+            IfOk result (λ happened. IfNone happened.played (NonePlayed before (fields_of board.now))) }
         ensures known { good (fields_of board.now) ≡ true →
             OnOk result (known_of self.new ≡ Some (fields_of board.now)) }
+        ensures opponent { good (fields_of board.now) ≡ true →
+            OnOk result (opponent_of self.new ≡ (fields_of board.now).opponent) }
         ensures others { good (fields_of board.now) ≡ false → (self.new ≡ self.old) × (result ≡ Ok nothing) }
     {
         let Ok(game) = GameBoard::of(board) else {

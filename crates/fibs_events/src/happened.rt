@@ -111,8 +111,10 @@ impl<'a> Happened<'a> {
 
     /// What was said has happened, and nothing else.
     pub(crate) fn of_said(said: Option<Event<'a>>) -> Happened<'a>
+        ensures said { result.said ≡ said.entry }
         ensures played { result.played ≡ None }
         ensures rolled { result.rolled ≡ None }
+        ensures value { result ≡ record nothing { said = said.entry } }
     {
         let mut happened = Happened::nothing();
         happened.said = said;

@@ -1,6 +1,9 @@
 //! What is remembered between two lines, each fact in the box of what it is of.
 
-ghost use Rattle.std.specs.Prelude.{◌≡◌, IfSome};
+ghost use Rattle.std.specs.Prelude.{◌≡◌, ◌≢◌, ◌↔◌, [], None, Some, IfSome, IfNone, IsTrue};
+ghost use Rattle.fibs_fields.specs.Bytes.{name_bytes};
+ghost use Rattle.fibs_events.specs.Known.{known_of, opponent_of, side_in};
+ghost use Rattle.fibs_events.specs.Remembered.{IsRollTold, begun, doubled_by, ended_game, met, new_game, rolled_in, unheard};
 
 use crate::event::{Length, Side};
 use crate::happened::Rolled;
@@ -97,7 +100,9 @@ pub struct Events {
 }
 
 /// The name of a player, kept.
-pub(crate) fn kept(name: Name<'_>) -> KeptName {
+pub(crate) fn kept(name: Name<'_>) -> KeptName
+    ensures { result.items ≡ name_bytes name.entry }
+{
     let mut kept = KeptName::new();
     let _fits = kept.try_extend_from_slice(name.bytes());
     kept
@@ -105,7 +110,9 @@ pub(crate) fn kept(name: Name<'_>) -> KeptName {
 
 impl Game {
     /// Nothing was said of it.
-    pub(crate) fn new() -> Game {
+    pub(crate) fn new() -> Game
+        ensures { result ≡ new_game }
+    {
         Game {
             roll: None,
             doubled: None,
@@ -115,7 +122,9 @@ impl Game {
     }
 
     /// One whose end was reported.
-    pub(crate) fn ended() -> Game {
+    pub(crate) fn ended() -> Game
+        ensures { result ≡ ended_game }
+    {
         let mut game = Game::new();
         game.is_over = true;
         game
@@ -123,7 +132,10 @@ impl Game {
 
     /// Takes note of a roll. The roll, if it was not reported yet, in whatever order its dice were told.
     pub(crate) fn note_roll(&mut self, roll: Rolled) -> Option<Rolled>
-        ensures { IfSome result (λ told. told ≡ roll) }
+        ensures value { IfSome result (λ told. told ≡ roll) }
+        ensures told { IfSome result (λ told. self.new ≡ rolled_in roll self.old) }
+        ensures known { IfNone result (IsRollTold self.old.roll roll) }
+        ensures same { IfNone result (self.new ≡ self.old) }
     {
         if self.has_roll(&roll) {
             return None;
@@ -135,7 +147,9 @@ impl Game {
     }
 
     /// Whether a roll was reported and not played.
-    fn has_roll(&self, roll: &Rolled) -> bool {
+    fn has_roll(&self, roll: &Rolled) -> bool
+        ensures { IsTrue result ↔ IsRollTold self.now.roll roll.now }
+    {
         let Some(told) = self.roll else {
             return false;
         };
@@ -145,7 +159,10 @@ impl Game {
 
     /// Takes note of a double. Who doubles, if that was not reported yet.
     pub(crate) fn note_double(&mut self, who: Side) -> Option<Side>
-        ensures { IfSome result (λ told. told ≡ who) }
+        ensures value { IfSome result (λ told. told ≡ who) }
+        ensures told { IfSome result (λ told. self.old.doubled ≢ Some who) }
+        ensures known { IfNone result (self.old.doubled ≡ Some who) }
+        ensures noted { self.new ≡ doubled_by (Some who) self.old }
     {
         let is_known = self.doubled == Some(who);
         self.doubled = Some(who);
@@ -155,7 +172,11 @@ impl Game {
 
 impl Events {
     /// Nothing was heard.
-    pub fn new() -> Events {
+    pub fn new() -> Events
+        ensures known { known_of result ≡ None }
+        ensures opponent { opponent_of result ≡ [] }
+        ensures value { result ≡ unheard [] }
+    {
         Events {
             known: None,
             name: KeptName::new(),
@@ -172,18 +193,24 @@ impl Events {
     }
 
     /// The opponent of the match that is played, or was played last; empty if none is known.
-    pub fn opponent(&self) -> &[u8] {
+    pub fn opponent(&self) -> &[u8]
+        ensures { result.now ≡ opponent_of self.now }
+    {
         self.opponent.as_slice()
     }
 
     /// A game begins, of which no board has come.
-    pub(crate) fn begin_game(&mut self) {
+    pub(crate) fn begin_game(&mut self)
+        ensures { self.new ≡ begun self.old }
+    {
         self.known = None;
         self.game = Game::new();
     }
 
     /// A match is on the table with this player. With another one than before nothing is known of it.
-    pub(crate) fn meet(&mut self, name: Name<'_>) {
+    pub(crate) fn meet(&mut self, name: Name<'_>)
+        ensures { self.new ≡ met (name_bytes name.entry) self.old }
+    {
         if self.opponent.as_slice() != name.bytes() {
             self.opponent = kept(name);
             self.other_rating = None;
@@ -194,7 +221,9 @@ impl Events {
     }
 
     /// The side of a name that a text has: none is the user. None if it is another player's.
-    pub(crate) fn side_of(&self, name: &[u8]) -> Option<Side> {
+    pub(crate) fn side_of(&self, name: &[u8]) -> Option<Side>
+        ensures { result ≡ side_in name.now self.now }
+    {
         if name.is_empty() {
             Some(Side::Own)
         } else if self.opponent.as_slice() == name {

@@ -1,11 +1,12 @@
 //! Points of games and of matches.
 
-ghost use Rattle.std.specs.Prelude.{◌≡◌, ◌≤◌, ◌==◌, ◌*◌, IfSome};
+ghost use Rattle.std.specs.Prelude.{◌≡◌, ◌≤◌, ◌==◌, ◌*◌, ◌<◌, IfSome, IfNone, option_map};
+ghost use Rattle.std.specs.Option.{option_copied};
 ghost use Rattle.fibs_fields.specs.Board.{field_of};
 ghost use Rattle.fibs_fields.specs.FieldReading.{natural};
 ghost use Rattle.fibs_fields.specs.StoredBoard.{fields_of};
 ghost use Rattle.fibs_position.specs.GameOf.{game_of};
-ghost use Rattle.fibs_events.specs.Ends.{GameWon, MatchWon, cube_of, score_of, scores_of, taker_of, worth_of};
+ghost use Rattle.fibs_events.specs.Ends.{GameWon, MatchWon, NoMatchWon, cube_of, is_alike, is_same_match, is_same_score, keeps_points, score_of, scores_of, taker_of, worth_in, worth_of};
 
 use crate::event::Side;
 use crate::happened::{Won, WonMatch};
@@ -42,7 +43,9 @@ fn worth_on(points: u32, game: &GameBoard) -> Option<Stake>
 }
 
 /// What so many points are on the cube of a game, if a board of it is known.
-pub(crate) fn worth(points: u32, game: Option<&GameBoard>) -> Option<Stake> {
+pub(crate) fn worth(points: u32, game: Option<&GameBoard>) -> Option<Stake>
+    ensures { result ≡ worth_in points (option_map game_of (option_copied game.entry)) }
+{
     worth_on(points, game?)
 }
 
@@ -95,24 +98,38 @@ pub(crate) fn won_between(before: &GameBoard, after: &GameBoard) -> Option<Won>
 }
 
 /// Whether both boards have the same points.
-pub(crate) fn is_same_score(before: &GameBoard, after: &GameBoard) -> bool {
+pub(crate) fn is_same_score(before: &GameBoard, after: &GameBoard) -> bool
+    ensures { result ≡ is_same_score (game_of before.now) (game_of after.now) }
+{
     scores(before.board()) == scores(after.board())
 }
 
+/// Whether two boards are of matches with the same opponent, and of the same length.
+fn is_alike(a: &Board, b: &Board) -> bool
+    ensures { result ≡ is_alike (fields_of a.now) (fields_of b.now) }
+{
+    a.opponent().bytes() == b.opponent().bytes() && a.field(MATCH_LENGTH) == b.field(MATCH_LENGTH)
+}
+
+/// Whether nobody has lost points between two boards.
+fn keeps_points(a: &Board, b: &Board) -> bool
+    ensures { result ≡ keeps_points (fields_of a.now) (fields_of b.now) }
+{
+    score(Side::Own, a) <= score(Side::Own, b) && score(Side::Other, a) <= score(Side::Other, b)
+}
+
 /// Whether a board can be of the same match as the one before it: nobody loses points.
-pub(crate) fn is_same_match(before: &GameBoard, after: &GameBoard) -> bool {
-    let (a, b) = (before.board(), after.board());
-    let [own, other] = scores(a);
-    let [own_now, other_now] = scores(b);
-    a.opponent().bytes() == b.opponent().bytes()
-        && a.field(MATCH_LENGTH) == b.field(MATCH_LENGTH)
-        && own <= own_now
-        && other <= other_now
+pub(crate) fn is_same_match(before: &GameBoard, after: &GameBoard) -> bool
+    ensures { result ≡ is_same_match (game_of before.now) (game_of after.now) }
+{
+    is_alike(before.board(), after.board()) && keeps_points(before.board(), after.board())
 }
 
 /// The end of the match that a board shows, if this side has won it.
 fn match_won_by(winner: Side, board: &Board) -> Option<WonMatch>
-    ensures { IfSome result (λ won. MatchWon (fields_of board.now) won) }
+    ensures won { IfSome result (λ won. MatchWon (fields_of board.now) won) }
+    ensures winner { IfSome result (λ won. won.winner ≡ winner) }
+    ensures none { IfNone result (score_of winner (fields_of board.now) < natural (field_of (fields_of board.now) 4)) }
 {
     let length = number(board, MATCH_LENGTH);
     if score(winner, board) < length {
@@ -127,7 +144,8 @@ fn match_won_by(winner: Side, board: &Board) -> Option<WonMatch>
 
 /// The end of the match that a board shows.
 pub(crate) fn won_match_on(game: &GameBoard) -> Option<WonMatch>
-    ensures { IfSome result (λ won. MatchWon (game_of game.now) won) }
+    ensures won { IfSome result (λ won. MatchWon (game_of game.now) won) }
+    ensures none { IfNone result (NoMatchWon (game_of game.now)) }
 {
     let board = game.board();
     if board.field(MATCH_LENGTH) == UNLIMITED {

@@ -1,9 +1,15 @@
 //! What texts say has happened.
 
-ghost use Rattle.std.specs.Prelude.{◌≡◌, IfSome, None};
+ghost use Rattle.std.specs.Prelude.{◌≡◌, ◌≢◌, IfSome, IfNone, Some, None, option_map, true};
 ghost use Rattle.fibs_rules.specs.PlayValue.{hops_of};
-ghost use Rattle.fibs_events.specs.Happenings.{LegalFrom};
-ghost use Rattle.fibs_events.specs.Known.{known_of};
+ghost use Rattle.fibs_events.specs.Happenings.{LegalFrom, nothing};
+ghost use Rattle.fibs_events.specs.Ends.{other_side};
+ghost use Rattle.fibs_events.specs.Known.{known_of, side_in};
+ghost use Rattle.fibs_events.specs.declared.event.Side.{Side};
+ghost use Rattle.fibs_events.specs.declared.happened.Won.{Won};
+ghost use Rattle.fibs_events.specs.declared.happened.WonMatch.{WonMatch};
+ghost use Rattle.fibs_events.specs.Remembered.{IsRemembered, IsRollTold, played_in, says_nothing, with_board, with_game};
+ghost use Rattle.fibs_events.specs.Said.{IsOfText};
 
 use crate::details::{dice_in, first_number, opening_in, play_in, score_in};
 use crate::event::Side;
@@ -40,7 +46,9 @@ fn with_cube_doubled(game: &GameBoard) -> Option<GameBoard> {
 
 impl Events {
     /// The board that is known after a decision of a side, if it can be carried out there.
-    fn carry_out(&mut self, who: Side, decision: &Decision, dice: [u8; 2]) {
+    fn carry_out(&mut self, who: Side, decision: &Decision, dice: [u8; 2])
+        ensures { self.new ≡ with_board self.new.known self.old }
+    {
         let Some(game) = self.known else {
             return;
         };
@@ -51,7 +59,11 @@ impl Events {
 
     /// A side has rolled.
     fn hear_roll<'a>(&mut self, who: Side, dice: [u8; 2]) -> Happened<'a>
-        ensures { result.played ≡ None }
+        ensures played { result.played ≡ None }
+        ensures said { result.said ≡ None }
+        ensures heard { IsRemembered self.old self.new result }
+        ensures rolls { IfSome result.rolled (λ rolled. rolled ≡ record { who = who; dice = dice }) }
+        ensures unrolled { IfNone result.rolled (IsRollTold self.old.game.roll (record { who = who; dice = dice })) }
     {
         let mut happened = Happened::nothing();
         happened.rolled = self.game.note_roll(Rolled { who, dice });
@@ -61,7 +73,10 @@ impl Events {
 
     /// A roll that a text says.
     fn hear_told_roll<'a>(&mut self, report: &Report<'a>) -> Option<Happened<'a>>
-        ensures { IfSome result (λ happened. happened.played ≡ None) }
+        ensures played { IfSome result (λ happened. happened.played ≡ None) }
+        ensures said { IfSome result (λ happened. happened.said ≡ None) }
+        ensures heard { IfSome result (λ happened. IsRemembered self.old self.new happened) }
+        ensures none { IfNone result (self.new ≡ self.old) }
     {
         let dice = dice_in(report.rest)?;
         let who = self.side_of(report.name)?;
@@ -70,7 +85,10 @@ impl Events {
 
     /// The first roll of a game. He who has the larger die plays both.
     fn hear_opening<'a>(&mut self, report: &Report<'a>) -> Option<Happened<'a>>
-        ensures { IfSome result (λ happened. happened.played ≡ None) }
+        ensures played { IfSome result (λ happened. happened.played ≡ None) }
+        ensures said { IfSome result (λ happened. happened.said ≡ None) }
+        ensures heard { IfSome result (λ happened. IsRemembered self.old self.new happened) }
+        ensures none { IfNone result (self.new ≡ self.old) }
     {
         let ([own, other], name) = opening_in(report.rest)?;
         if self.side_of(name)? == Side::Own {
@@ -101,7 +119,10 @@ impl Events {
 
     /// A play that a text says, if the rules allow it on the board that is known.
     fn hear_play(&mut self, who: Side, play: Play) -> Option<Turned>
-        ensures { IfSome result (λ turned. LegalFrom (known_of self.old) turned.who (hops_of turned.play)) }
+        ensures legal { IfSome result (λ turned. LegalFrom (known_of self.old) turned.who (hops_of turned.play)) }
+        ensures heard { IfSome result (λ turned.
+            self.new ≡ with_board self.new.known (with_game (played_in self.old.game) self.old)) }
+        ensures none { IfNone result (self.new ≡ self.old) }
     {
         let turned = self.legal_play(who, play)?;
         self.carry_out(who, &Decision::Move(play), NO_DICE);
@@ -122,7 +143,10 @@ impl Events {
 
     /// A play that a text says, of none or some steps.
     fn hear_told_play<'a>(&mut self, report: &Report<'a>) -> Happened<'a>
-        ensures { IfSome result.played (λ turned. LegalFrom (known_of self.old) turned.who (hops_of turned.play)) }
+        ensures said { result.said ≡ None }
+        ensures played { IfSome result.played (λ turned.
+            LegalFrom (known_of self.old) turned.who (hops_of turned.play)) }
+        ensures heard { IsRemembered self.old self.new result }
     {
         let mut happened = Happened::nothing();
         let Some((who, play)) = self.told_play(report) else {
@@ -134,7 +158,15 @@ impl Events {
 
     /// A double that a text says.
     fn hear_double<'a>(&mut self, report: &Report<'a>) -> Option<Happened<'a>>
-        ensures { IfSome result (λ happened. happened.played ≡ None) }
+        ensures played { IfSome result (λ happened. happened.played ≡ None) }
+        ensures said { IfSome result (λ happened. happened.said ≡ None) }
+        ensures heard { IfSome result (λ happened. IsRemembered self.old self.new happened) }
+        ensures none { IfNone result (self.new ≡ self.old) }
+        ensures doubles { IfSome result (λ happened.
+            IfSome happened.doubled (λ who. side_in report.now.name.now self.old ≡ Some who)) }
+        ensures undoubled { IfSome result (λ happened.
+            IfNone happened.doubled (side_in report.now.name.now self.old ≡ self.old.game.doubled)) }
+        ensures nobody { IfNone result (side_in report.now.name.now self.old ≡ None) }
     {
         let who = self.side_of(report.name)?;
         let mut happened = Happened::nothing();
@@ -144,7 +176,13 @@ impl Events {
 
     /// That a double was accepted.
     fn hear_taken<'a>(&mut self, report: &Report<'a>) -> Option<Happened<'a>>
-        ensures { IfSome result (λ happened. happened.played ≡ None) }
+        ensures played { IfSome result (λ happened. happened.played ≡ None) }
+        ensures said { IfSome result (λ happened. happened.said ≡ None) }
+        ensures heard { IfSome result (λ happened. IsRemembered self.old self.new happened) }
+        ensures none { IfNone result (self.new ≡ self.old) }
+        ensures takes { IfSome result (λ happened. happened.accepted ≡ side_in report.now.name.now self.old) }
+        ensures untaken { IfNone result ((who : Side) → side_in report.now.name.now self.old ≡ Some who
+            → self.old.game.doubled ≢ Some (other_side who)) }
     {
         let who = self.side_of(report.name)?;
         if self.game.doubled != Some(who.other()) {
@@ -159,7 +197,12 @@ impl Events {
 
     /// That a side has won the game.
     fn hear_won<'a>(&mut self, report: &Report<'a>) -> Option<Happened<'a>>
-        ensures { IfSome result (λ happened. happened.played ≡ None) }
+        ensures played { IfSome result (λ happened. happened.played ≡ None) }
+        ensures said { IfSome result (λ happened. happened.said ≡ None) }
+        ensures heard { IfSome result (λ happened. IsRemembered self.old self.new happened) }
+        ensures none { IfNone result (self.new ≡ self.old) }
+        ensures wins { IfSome result (λ happened.
+            option_map (λ (won : Won). won.winner) happened.won ≡ side_in report.now.name.now self.old) }
     {
         let winner = self.side_of(report.name)?;
         let points = first_number(report.rest)?;
@@ -178,7 +221,12 @@ impl Events {
 
     /// That a side has won the match.
     fn hear_won_match<'a>(&mut self, report: &Report<'a>) -> Option<Happened<'a>>
-        ensures { IfSome result (λ happened. happened.played ≡ None) }
+        ensures played { IfSome result (λ happened. happened.played ≡ None) }
+        ensures said { IfSome result (λ happened. happened.said ≡ None) }
+        ensures heard { IfSome result (λ happened. IsRemembered self.old self.new happened) }
+        ensures none { IfNone result (self.new ≡ self.old) }
+        ensures wins { IfSome result (λ happened.
+            option_map (λ (won : WonMatch). won.winner) happened.won_match ≡ side_in report.now.name.now self.old) }
     {
         let winner = self.side_of(report.name)?;
         let length = first_number(report.rest)?;
@@ -202,7 +250,10 @@ impl Events {
 
     /// What a text says that has happened of dice, plays, the cube or an end.
     fn hear_turn<'a>(&mut self, report: &Report<'a>) -> Option<Happened<'a>>
-        ensures { IfSome result (λ happened. happened.played ≡ None) }
+        ensures played { IfSome result (λ happened. happened.played ≡ None) }
+        ensures said { IfSome result (λ happened. happened.said ≡ None) }
+        ensures heard { IfSome result (λ happened. IsRemembered self.old self.new happened) }
+        ensures none { IfNone result (self.new ≡ self.old) }
     {
         match report.deed {
             Deed::Rolls => self.hear_told_roll(report),
@@ -217,7 +268,10 @@ impl Events {
 
     /// What a text says that is known.
     fn hear_report<'a>(&mut self, report: &Report<'a>, text: &'a [u8]) -> Happened<'a>
-        ensures { IfSome result.played (λ turned. LegalFrom (known_of self.old) turned.who (hops_of turned.play)) }
+        ensures said { IfSome result.said (λ event. IsOfText text.now event) }
+        ensures played { IfSome result.played (λ turned.
+            LegalFrom (known_of self.old) turned.who (hops_of turned.play)) }
+        ensures heard { IsRemembered self.old self.new result }
     {
         if matches!(report.deed, Deed::Moves | Deed::CannotMove) {
             return self.hear_told_play(report);
@@ -231,7 +285,11 @@ impl Events {
     /// What a text says. A play is legal on the board that is known, for the side that has rolled there. A text that is
     /// not known says nothing, nor does the message of the day, nor a line of a log that was sent.
     pub(crate) fn hear_text<'a>(&mut self, text: &'a [u8]) -> Happened<'a>
-        ensures { IfSome result.played (λ turned. LegalFrom (known_of self.old) turned.who (hops_of turned.play)) }
+        ensures said { IfSome result.said (λ event. IsOfText text.now event) }
+        ensures played { IfSome result.played (λ turned.
+            LegalFrom (known_of self.old) turned.who (hops_of turned.play)) }
+        ensures heard { IsRemembered self.old self.new result }
+        ensures quiet { says_nothing self.old text.now ≡ true → (self.new ≡ self.old) × (result ≡ nothing) }
     {
         if self.is_motd || text.starts_with(SENT) {
             return Happened::nothing();

@@ -1,5 +1,8 @@
 //! What a text of the server says of the match: a table of shapes.
 
+ghost use Rattle.std.specs.Prelude.{◌≡◌, IfSome};
+ghost use Rattle.fibs_events.specs.Told.{IsNameOrNone, IsTold, is_of_opponent};
+
 use bstr::ByteSlice;
 use fibs_fields::name::Name;
 use fibs_fields::split::split;
@@ -551,7 +554,9 @@ fn others() -> &'static [Shape] {
 
 impl Told {
     /// Whether it counts only if it names the opponent: who watches another game hears the same of its players.
-    pub fn is_of_opponent(self) -> bool {
+    pub fn is_of_opponent(self) -> bool
+        ensures { result ≡ is_of_opponent self }
+    {
         matches!(
             self,
             Told::Declined | Told::Taken | Told::Doubles | Told::Resigns | Told::Plays
@@ -579,7 +584,11 @@ struct Found<'a> {
 
 impl<'a> Found<'a> {
     /// The same of the player with this name.
-    fn of(self, name: &'a [u8]) -> Report<'a> {
+    fn of(self, name: &'a [u8]) -> Report<'a>
+        ensures name { result.name.now ≡ name.entry.now }
+        ensures told { result.told ≡ self.entry.told }
+        ensures deed { result.deed ≡ self.entry.deed }
+    {
         Report {
             told: self.told,
             deed: self.deed,
@@ -613,7 +622,9 @@ fn first_word(text: &[u8]) -> &[u8] {
 }
 
 /// The bytes, if they are a name; else nothing. What a server calls a name may have bytes that a terminal obeys.
-fn name_or_none(bytes: &[u8]) -> &[u8] {
+fn name_or_none(bytes: &[u8]) -> &[u8]
+    ensures { IsNameOrNone result.now }
+{
     match Name::new(bytes) {
         Some(name) => name.bytes(),
         None => b"",
@@ -633,26 +644,34 @@ fn word_after_with(text: &[u8]) -> &[u8] {
 }
 
 /// What a text says that names a player after ` with `.
-fn read_with_a_player(text: &[u8]) -> Option<Report<'_>> {
+fn read_with_a_player(text: &[u8]) -> Option<Report<'_>>
+    ensures { IfSome result (λ report. IsNameOrNone report.name.now) }
+{
     let found = first_of(with_a_player(), text)?;
     Some(found.of(name_or_none(first_word(word_after_with(found.rest)))))
 }
 
 /// What a text says that names a player after how it begins.
-fn read_naming(text: &[u8]) -> Option<Report<'_>> {
+fn read_naming(text: &[u8]) -> Option<Report<'_>>
+    ensures { IfSome result (λ report. IsNameOrNone report.name.now) }
+{
     let found = first_of(naming(), text)?;
     Some(found.of(name_or_none(first_word(found.rest))))
 }
 
 /// What a text says that begins with the name of a player.
-fn read_of_a_player(text: &[u8]) -> Option<Report<'_>> {
+fn read_of_a_player(text: &[u8]) -> Option<Report<'_>>
+    ensures { IfSome result (λ report. IsNameOrNone report.name.now) }
+{
     let (name, rest) = split(text, b' ');
     let found = first_of(of_a_player(), rest?)?;
     Some(found.of(Name::new(name)?.bytes()))
 }
 
 /// What a text of the server says, if it says anything that is known: by the first shape that it has.
-pub fn read_report(text: &[u8]) -> Option<Report<'_>> {
+pub fn read_report(text: &[u8]) -> Option<Report<'_>>
+    ensures { IfSome result (λ report. IsNameOrNone report.name.now) }
+{
     let text = without_spaces(text);
     if let Some(found) = first_of(others(), text) {
         return Some(found.of(b""));
@@ -667,7 +686,9 @@ pub fn read_report(text: &[u8]) -> Option<Report<'_>> {
 }
 
 /// What a text of the server says of what the user waits for, if it says anything of it.
-pub fn read_told(text: &[u8]) -> Option<Report<'_>> {
+pub fn read_told(text: &[u8]) -> Option<Report<'_>>
+    ensures { IfSome result (λ report. IsTold report) }
+{
     let report = read_report(text)?;
     if report.told == Told::Else {
         return None;
