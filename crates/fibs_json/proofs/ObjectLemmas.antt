@@ -22,7 +22,7 @@ use Rattle.fibs_json.specs.Boards.{PositionMembers, position_members}
 use Rattle.fibs_json.specs.Columns.{NamedField, field_member, field_members, message_members, row_of}
 use Rattle.fibs_json.specs.Parts.{field_text}
 use Rattle.fibs_json.specs.Json.{Member, member, more_member, more_members, quoted, string, whole}
-use Rattle.fibs_json.specs.Lines.{HeardAs, HeardObject, LineObject, ObjectAs, ReadObject, ending, line_object, object_with, opening}
+use Rattle.fibs_json.specs.Lines.{HeardAs, HeardObject, LineObject, ObjectAs, ReadObject, line_object, object_with, opening}
 
 -- the front of an object, its further members and its end are the object
 pub closed : (kind bytes : List ℕ) (ms : List Member)
@@ -111,20 +111,6 @@ pub read_object : (line : ReadLine) (reading : ReadingValue) (text : List ℕ) �
 read_object line reading text e reads is =
     let P : Bool → Type 0 = λ b. ObjectAs b line.bytes text in
     subst P (sym e) (reading, reads, is)
-
--- of what follows the last line end
-pub ended : (old one two : List ℕ) (held : ℕ) → one ≡ old ++ codes "{\"kind\":\"unfinished\""
-    → two ≡ one ++ more_member (member (codes "bytes") (whole held)) → two ++ codes "}\n" ≡ old ++ ending held
-unfolding ending
-ended old one two held first second =
-    let front : List ℕ = codes "{\"kind\":\"unfinished\"" in
-    let bytes : List ℕ = more_member (member (codes "bytes") (whole held)) in
-    ap (λ (l : List ℕ). l ++ codes "}\n") (second ∙ ap (λ (l : List ℕ). l ++ bytes) first)
-    ∙ append_assoc (old ++ front) bytes (codes "}\n")
-    ∙ append_assoc old front (bytes ++ codes "}\n")
-    ∙ ap (λ (l : List ℕ). old ++ (front ++ l))
-    (sym (ap (λ (l : List ℕ). (l ++ (125 ∷ [])) ++ (10 ∷ [])) (append-nil bytes)
-    ∙ append_assoc bytes (125 ∷ []) (10 ∷ [])))
 
 -- the checkers of one place more
 pub checkers_more : (f : ℕ → ℕ) (old now : List ℕ) (place count : ℕ) → old ≡ map f (range_with_len 0 place)

@@ -6,7 +6,7 @@ use Rattle.fibs_messages.specs.Line.{ReadingValue, numbered_line, board_line, te
 use Rattle.fibs_json.specs.Boards.{board_members}
 use Rattle.fibs_json.specs.Columns.{message_members}
 use Rattle.fibs_json.specs.Json.{Member, character, digit, in_string, inside, is_escaped, more_member, more_members, quoted}
-use Rattle.fibs_json.specs.Lines.{ObjectAs, ObjectsTellLines, OpeningsTell, ReadObject, line_object, HeardAs, HeardObject, object_with, malformed_members}
+use Rattle.fibs_json.specs.Lines.{ObjectAs, LineObject, ObjectsTellLines, OpeningsTell, ReadObject, line_object, opening, HeardAs, HeardObject, object_with, malformed_members}
 use Rattle.fibs_json.specs.Plays.{PlaysObject, PlaysTellLines}
 use Rattle.fibs_json.proofs.ObjectLemmas.{closed}
 
@@ -149,6 +149,17 @@ objects_tell l m text one two =
     let q = object_of m.cut m.bytes text two in
     let both = object_tells p.kind q.kind l.bytes m.bytes p.members q.members (sym p.text_is ∙ q.text_is) in
     same_line l m both.1 (sym p.cut_is ∙ ap begins_cut both.0 ∙ q.cut_is)
+
+-- the object of a line ends with a brace
+pub ending_brace : (line : ReadLine) (text : List ℕ) → LineObject line text
+    → (front : List ℕ) × (text ≡ front ++ (125 ∷ []))
+ending_brace line text h =
+    let o = object_of line.cut line.bytes text h in
+    let front : List ℕ = opening o.kind line.bytes in (
+      front ++ more_members o.members,
+      o.text_is ∙ sym (closed o.kind line.bytes o.members)
+          ∙ sym (append_assoc front (more_members o.members) (125 ∷ [])),
+    )
 
 -- an object of a line, with whatever further members
 pub record IsOpened (bytes text : List ℕ) : Type 0 where

@@ -3,6 +3,7 @@ pub mod Values
 pub mod Columns
 pub mod Boards
 pub mod Lines
+pub mod Places
 pub mod Streams
 pub mod Plays
 pub mod Told
@@ -10,4 +11,7 @@ pub mod Told
 pub mod Parts
 pub mod Events
 pub mod Counting
+pub mod Asked
 pub mod Eventful
+-- What only private functions and proofs say.
+pub mod Passing

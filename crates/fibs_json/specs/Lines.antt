@@ -1,5 +1,5 @@
 -- The object that is printed for a line.
-use Rattle.std.specs.Prelude.{◌≡◌, ◌==◌, ℕ, Bool, true, false, List, [], ◌∷◌, ◌++◌, codes, if◌then◌else◌}
+use Rattle.std.specs.Prelude.{◌≡◌, ℕ, Bool, true, false, List, [], ◌∷◌, ◌++◌, codes}
 use Rattle.fibs_lines.specs.Lines.{ReadLine}
 use Rattle.fibs_fields.specs.Faults.{fault_name}
 use Rattle.fibs_fields.specs.declared.fault.Fault.{Fault}
@@ -56,15 +56,6 @@ ObjectAs false bytes text = (reading : ReadingValue) × IsReading bytes reading 
 -- the same of a line as the reader of lines lends it
 abbrev pub LineObject : ReadLine → List ℕ → Type 0
 LineObject line text = ObjectAs line.cut line.bytes text
-
--- the object of so many bytes after the last line end, ended by a byte 10
-unfoldable pub ending : ℕ → List ℕ
-ending held =
-    object (member (codes "kind") (string (codes "unfinished")) ∷ member (codes "bytes") (whole held) ∷ []) ++ (10 ∷ [])
-
--- what is printed at the end, if so many bytes follow the last line end
-abbrev pub unfinished_object : ℕ → List ℕ
-unfinished_object held = if held == 0 then [] else ending held
 
 -- the front of an object tells its kind and its line, whatever follows it
 abbrev pub OpeningsTell : Type 0

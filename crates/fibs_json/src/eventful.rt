@@ -1,30 +1,33 @@
 //! `fibs show --events`: prints an object for each line of a stream, after it one for each event of the line,
 //! and at the end a summary.
-ghost use Rattle.std.specs.Prelude.{◌≡◌, ◌*◌, ◌++◌, IfOk, OnOk};
-ghost use Rattle.std.specs.Io.KnownBytes.{Appends, IsAtEnd};
+ghost use Rattle.std.specs.Prelude.{◌≡◌, ◌*◌, ◌⊎◌, ◌++◌, ◌∷◌, [], ℕ, List, Option, length, IfOk, OnOk, IsErrOf};
+ghost use Rattle.std.specs.Io.KnownBytes.{IsAtEnd};
 ghost use Rattle.fibs_engine.specs.Reads.{LostAtMost};
+ghost use Rattle.fibs_events.specs.Asking.{HearsMore};
 ghost use Rattle.fibs_events.specs.InOrder.{events_of};
 ghost use Rattle.fibs_events.specs.Known.{known_of};
 ghost use Rattle.fibs_events.specs.declared.happened.Happened.{Happened};
 ghost use Rattle.fibs_messages.specs.Line.{reading_of};
-ghost use Rattle.fibs_json.specs.Counting.{event_members, line_members, nothing_counted, other_members, summary_object, with_any, with_event, with_events, with_line, with_text};
+ghost use Rattle.fibs_lines.specs.Lines.{lines_of, value_of};
+ghost use Rattle.fibs_json.specs.Counting.{event_members, line_members, nothing_counted, one_more, other_members, summary_object, with_any, with_event, with_events, with_line, with_text};
 ghost use Rattle.fibs_json.specs.Json.{more_members};
-ghost use Rattle.fibs_json.specs.Eventful.{EventfulLine, HappenedAs, WroteAll, event_line, event_lines};
-ghost use Rattle.fibs_json.specs.Lines.{unfinished_object};
+ghost use Rattle.fibs_json.specs.Eventful.{EventfulEnd, EventfulText, HappenedAs, WroteAll, WroteFront, WroteLines, WroteRead, event_line, event_lines};
+ghost use Rattle.fibs_json.specs.Events.{event_object};
+ghost use Rattle.fibs_json.specs.Passing.{AnyAt, EventfulAt, IsAsked, IsPlaceIn, Refused, lines_after, told_text};
+ghost use Rattle.fibs_json.specs.Places.{in_64_bits};
 
 use crate::happened::append_event;
-use crate::line::append_object;
 use crate::members::append_whole;
-use crate::show::append_unfinished;
+use crate::place::Place;
 use fibs_engine::fault::EngineFault;
 use fibs_engine::limits::{MOST_INPUT_READS, READ_PORTION};
 use fibs_engine::line_printer::{LinePrinter, print_stream};
 use fibs_engine::status::Status;
-use fibs_engine::writing::write_bytes;
 use fibs_events::Events;
+use fibs_events::asking::Asking;
 use fibs_events::event::Event;
 use fibs_events::happened::Happened;
-use fibs_lines::Line;
+use fibs_lines::{Fed, Line, Lines};
 use fibs_messages::{Reading, read};
 use std::alloc::{AllocError, Global};
 use std::io::{Read, Write};
@@ -51,6 +54,8 @@ struct Counts {
 #[derive(Drop)]
 struct EventObjects {
     alloc: Global,
+    place: Place,
+    asking: Asking,
     events: Events,
     counts: Counts,
 }
@@ -147,6 +152,18 @@ fn append_any(number: u64, event: &Option<Event<'_>>, text: &mut Vec<u8>) -> Res
     }
 }
 
+/// Appends the object of an event, if there is one, and a line end.
+fn append_told(number: u64, event: &Option<Event<'_>>, text: &mut Vec<u8>) -> Result<(), AllocError>
+    ensures { OnOk result (text.new.items ≡ text.old.items ++ told_text (event_object number) event.now) }
+{
+    let Some(event) = event else {
+        return Ok(());
+    };
+    append_event(number, event, text)?;
+    text.push(b'\n')?;
+    Ok(())
+}
+
 /// Appends the objects of events, each on a line of its own.
 fn append_events(
     number: u64,
@@ -163,9 +180,15 @@ fn append_events(
 
 impl EventObjects {
     /// Nothing was read.
-    fn new(alloc: Global) -> EventObjects {
+    fn new(alloc: Global) -> EventObjects
+        ensures place { IsPlaceIn result.place [] }
+        ensures asking { IsAsked result.asking [] }
+        ensures lines { result.counts.lines ≡ in_64_bits (length (lines_of [])) }
+    {
         EventObjects {
             alloc,
+            place: Place::new(),
+            asking: Asking::new(),
             events: Events::new(),
             counts: Counts::new(),
         }
@@ -177,6 +200,8 @@ impl EventObjects {
         line: &Line<'_>,
         reading: &Reading<'a>,
     ) -> Result<Happened<'a>, AllocError>
+        ensures place { self.new.place ≡ self.old.place }
+        ensures asking { self.new.asking ≡ self.old.asking }
         ensures heard { IfOk result (λ happened.
             HappenedAs line.now.cut (known_of self.old.events) (reading_of reading.now) happened) }
         ensures counts { self.new.counts ≡ with_line self.old.counts line.now.cut (reading_of reading.now) }
@@ -189,41 +214,119 @@ impl EventObjects {
         }
     }
 
-    /// Appends what has happened by a line, with the number of lines up to this one, and counts it.
+    /// Appends what has happened by a line, with its number, and counts it.
     fn append_happened(
         &mut self,
         line: &Line<'_>,
         reading: &Reading<'_>,
         text: &mut Vec<u8>,
     ) -> Result<(), AllocError>
-        ensures { OnOk result ((happened : Happened)
+        ensures place { self.new.place ≡ self.old.place }
+        ensures asking { self.new.asking ≡ self.old.asking }
+        ensures happened { OnOk result ((happened : Happened)
             × HappenedAs line.now.cut (known_of self.old.events) (reading_of reading.now) happened
-            × (text.new.items ≡ text.old.items ++ event_lines self.new.counts.lines (events_of happened))
+            × (text.new.items ≡ text.old.items ++ event_lines (one_more self.old.place.lines) (events_of happened))
             × (self.new.counts
             ≡ with_events (with_line self.old.counts line.now.cut (reading_of reading.now)) (events_of happened))) }
     {
         let happened = self.hear(line, reading)?;
         let events = happened.events();
         self.counts.count_events(&events);
-        append_events(self.counts.lines, &events, text)?;
+        append_events(self.place.number(), &events, text)?;
         Ok(())
     }
 }
 
-impl LinePrinter for EventObjects {
-    ghost prints = { EventfulLine };
-
-    ghost ends = { unfinished_object };
-
-    fn append_line(&mut self, line: &Line<'_>, text: &mut Vec<u8>) -> Result<(), AllocError> {
-        append_object(line, text)?;
+impl EventObjects {
+    /// Appends the object of a line, and those of its events, each with a line end.
+    fn append_line(&mut self, line: &Line<'_>, text: &mut Vec<u8>) -> Result<(), AllocError>
+        ensures place { self.new.place ≡ self.old.place }
+        ensures asking { self.new.asking ≡ self.old.asking }
+        ensures lines { OnOk result (self.new.counts.lines ≡ one_more self.old.counts.lines) }
+        ensures shown { OnOk result ((shown : List ℕ) × EventfulAt self.old.place (value_of line.now) shown
+            × (text.new.items ≡ text.old.items ++ (shown ++ (10 ∷ [])))) }
+    {
+        self.place.append_object(line, text)?;
         self.append_happened(line, &read(line.bytes), text)?;
         text.push(b'\n')?;
         Ok(())
     }
 
-    fn append_end(&mut self, held: usize, text: &mut Vec<u8>) -> Result<(), AllocError> {
-        append_unfinished(held, text)
+    /// The same of a line that may be there.
+    fn append_any_line(
+        &mut self,
+        line: &Option<Line<'_>>,
+        text: &mut Vec<u8>,
+    ) -> Result<(), AllocError>
+        ensures place { self.new.place ≡ self.old.place }
+        ensures asking { self.new.asking ≡ self.old.asking }
+        ensures lines { OnOk result (self.new.counts.lines ≡ lines_after self.old.counts.lines line.now) }
+        ensures shown { OnOk result ((added : List ℕ) × AnyAt EventfulAt self.old.place line.now added
+            × (text.new.items ≡ text.old.items ++ added)) }
+    {
+        match line {
+            None => Ok(()),
+            Some(line) => self.append_line(line, text),
+        }
+    }
+}
+
+impl EventObjects {
+    /// Appends the object of what the next byte of the stream tells, if it tells that the login was refused.
+    fn append_refusal(&mut self, byte: u8, text: &mut Vec<u8>) -> Result<(), AllocError>
+        ensures place { self.new.place ≡ self.old.place }
+        ensures lines { self.new.counts.lines ≡ self.old.counts.lines }
+        ensures told { OnOk result ((event : Option Event)
+            × HearsMore self.old.asking self.new.asking (byte ∷ []) event
+            × (text.new.items ≡ text.old.items ++ told_text (event_object (one_more self.old.place.lines)) event)) }
+    {
+        let event = self.asking.hear(&[byte]);
+        self.counts.count_any(&event);
+        append_told(self.place.number(), &event, text)
+    }
+
+    /// Appends the objects of refused logins that the next bytes of the stream tell, each with a line end.
+    fn append_refusals(&mut self, bytes: &[u8], text: &mut Vec<u8>) -> Result<(), AllocError>
+        ensures place { self.new.place ≡ self.old.place }
+        ensures lines { self.new.counts.lines ≡ self.old.counts.lines }
+        ensures told { OnOk result ((added : List ℕ) × (text.new.items ≡ text.old.items ++ added)
+            × Refused self.old.asking self.new.asking bytes.now
+            (event_object (one_more self.old.place.lines) Event.LoginRefused) added) }
+    {
+        for byte in bytes {
+            self.append_refusal(*byte, text)?;
+        }
+        Ok(())
+    }
+}
+
+impl LinePrinter for EventObjects {
+    ghost reads = { λ objects s. IsPlaceIn objects.place s × IsAsked objects.asking s
+        × (objects.counts.lines ≡ in_64_bits (length (lines_of s))) };
+
+    ghost prints = { EventfulText };
+
+    ghost ends = { EventfulEnd };
+
+    fn begin(&mut self) {
+        *self = EventObjects::new(self.alloc);
+    }
+
+    fn append_piece(
+        &mut self,
+        piece: &[u8],
+        fed: &Fed<'_>,
+        text: &mut Vec<u8>,
+    ) -> Result<(), AllocError> {
+        self.append_refusals(&piece[..fed.used], text)?;
+        self.append_any_line(&fed.line, text)?;
+        self.place.pass(fed);
+        Ok(())
+    }
+
+    fn append_end(&mut self, lines: &Lines, text: &mut Vec<u8>) -> Result<(), AllocError> {
+        self.place.append_unfinished(lines.unfinished(), text)?;
+        append_summary(&self.counts, text)
     }
 }
 
@@ -267,22 +370,12 @@ fn append_summary(counts: &Counts, text: &mut Vec<u8>) -> Result<(), AllocError>
     Ok(())
 }
 
-/// Writes the summary.
-fn write_summary<W: Write>(
-    alloc: Global,
-    counts: &Counts,
-    writer: &mut W,
-) -> Result<(), EngineFault>
-    ensures { OnOk result (Appends (W.contents writer.old) (W.contents writer.new) (summary_object counts.now)) }
-{
-    let mut text = Vec::new(alloc);
-    append_summary(counts, &mut text)?;
-    write_bytes(text.as_slice(), writer)?;
-    Ok(())
-}
-
 /// Prints an object for each line that is read, to the reader's end, after it one for each event of the line, and at
 /// the end a summary. It reads at most 1,000,000,000 times, and at most 1024 bytes at once.
+///
+/// After a device's fault the writer has either all that is printed for what was read, without its end, if the reader
+/// failed or did not end; or a front of what is printed for what was read, if the writer failed, and then nothing
+/// after it.
 pub fn show_events<R: Read, W: Write>(
     alloc: Global,
     reader: &mut R,
@@ -292,6 +385,11 @@ pub fn show_events<R: Read, W: Write>(
     ensures whole { OnOk result (WroteAll (R.remaining reader.old) (R.remaining reader.new)
         (W.contents writer.old) (W.contents writer.new)) }
     ensures end { OnOk result (IsAtEnd (R.remaining reader.new)) }
+    ensures device { IsErrOf result EngineFault.Device →
+        WroteRead (R.remaining reader.old) (R.remaining reader.new) (W.contents writer.old) (W.contents writer.new)
+        ⊎ WroteFront (R.remaining reader.old) (R.remaining reader.new) (W.contents writer.old) (W.contents writer.new) }
+    ensures memory { IsErrOf result EngineFault.Memory →
+        WroteLines (R.remaining reader.old) (R.remaining reader.new) (W.contents writer.old) (W.contents writer.new) }
     ensures few { LostAtMost (MOST_INPUT_READS * READ_PORTION) (R.remaining reader.old) (R.remaining reader.new) }
 {
     let mut portion = [0; READ_PORTION];
@@ -304,9 +402,7 @@ pub fn show_events<R: Read, W: Write>(
         reader,
         writer,
     ) {
-        Ok(()) => {}
-        Err(fault) => return Err(fault.engine_fault()),
+        Ok(()) => Ok(Status::Done.code()),
+        Err(fault) => Err(fault.engine_fault()),
     }
-    write_summary(alloc, &objects.counts, writer)?;
-    Ok(Status::Done.code())
 }

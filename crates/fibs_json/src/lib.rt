@@ -9,6 +9,7 @@ mod happened;
 pub mod laws;
 pub mod line;
 mod members;
+mod place;
 pub mod plays;
 pub mod show;
 mod side;

@@ -1,17 +1,17 @@
 //! `fibs show --json`: prints an object for each line of a stream.
-ghost use Rattle.std.specs.Prelude.{◌≡◌, ◌*◌, ◌⊎◌, ◌++◌, IfOk, OnOk, IsErrOf};
+ghost use Rattle.std.specs.Prelude.{◌≡◌, ◌*◌, ◌⊎◌, IfOk, OnOk, IsErrOf};
 ghost use Rattle.std.specs.Io.KnownBytes.{IsAtEnd};
 ghost use Rattle.fibs_engine.specs.Reads.{LostAtMost};
-ghost use Rattle.fibs_json.specs.Lines.{LineObject, ending, unfinished_object};
+ghost use Rattle.fibs_json.specs.Passing.{IsPlaceIn};
+ghost use Rattle.fibs_json.specs.Places.{EachPlaced, Ending, PlacedObject};
 ghost use Rattle.fibs_json.specs.Streams.{WroteAll, WroteRead, WroteLines, WroteFront};
 
-use crate::line::append_object;
-use crate::members::append_whole;
+use crate::place::Place;
 use fibs_engine::fault::EngineFault;
 use fibs_engine::limits::{MOST_INPUT_READS, READ_PORTION};
 use fibs_engine::line_printer::{LinePrinter, print_stream};
 use fibs_engine::status::Status;
-use fibs_lines::Line;
+use fibs_lines::{Fed, Lines};
 use std::alloc::{AllocError, Global};
 use std::io::{Read, Write};
 
@@ -38,11 +38,14 @@ pub fn show_json<R: Read, W: Write>(
     ensures few { LostAtMost (MOST_INPUT_READS * READ_PORTION) (R.remaining reader.old) (R.remaining reader.new) }
 {
     let mut portion = [0; READ_PORTION];
+    let mut objects = Objects {
+        place: Place::new(),
+    };
     match print_stream(
         alloc,
         MOST_INPUT_READS,
         &mut portion,
-        &mut Objects,
+        &mut objects,
         reader,
         writer,
     ) {
@@ -53,39 +56,33 @@ pub fn show_json<R: Read, W: Write>(
 
 /// What is printed for the lines of a stream: an object for each.
 #[derive(Drop)]
-struct Objects;
+struct Objects {
+    place: Place,
+}
 
 impl LinePrinter for Objects {
-    ghost prints = { LineObject };
+    ghost reads = { λ objects s. IsPlaceIn objects.place s };
 
-    ghost ends = { unfinished_object };
+    ghost prints = { EachPlaced PlacedObject };
 
-    fn append_line(&mut self, line: &Line<'_>, text: &mut Vec<u8>) -> Result<(), AllocError> {
-        append_object(line, text)?;
-        text.push(b'\n')?;
+    ghost ends = { Ending };
+
+    fn begin(&mut self) {
+        self.place = Place::new();
+    }
+
+    fn append_piece(
+        &mut self,
+        _piece: &[u8],
+        fed: &Fed<'_>,
+        text: &mut Vec<u8>,
+    ) -> Result<(), AllocError> {
+        self.place.append_any(&fed.line, text)?;
+        self.place.pass(fed);
         Ok(())
     }
 
-    fn append_end(&mut self, held: usize, text: &mut Vec<u8>) -> Result<(), AllocError> {
-        append_unfinished(held, text)
+    fn append_end(&mut self, lines: &Lines, text: &mut Vec<u8>) -> Result<(), AllocError> {
+        self.place.append_unfinished(lines.unfinished(), text)
     }
-}
-
-/// Appends how many bytes follow the last line end, if some do.
-pub(crate) fn append_unfinished(held: usize, text: &mut Vec<u8>) -> Result<(), AllocError>
-    ensures { OnOk result (text.new.items ≡ text.old.items ++ unfinished_object held) }
-{
-    if held == 0 {
-        return Ok(());
-    }
-    append_ending(held as u64, text)
-}
-
-/// Appends the object of how many bytes follow the last line end.
-fn append_ending(held: u64, text: &mut Vec<u8>) -> Result<(), AllocError>
-    ensures { OnOk result (text.new.items ≡ text.old.items ++ ending held) }
-{
-    text.extend_from_slice(b"{\"kind\":\"unfinished\"")?;
-    append_whole(b"bytes", held, text)?;
-    text.extend_from_slice(b"}\n")
 }
