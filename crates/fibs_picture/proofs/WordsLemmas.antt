@@ -1,6 +1,7 @@
 -- Why words determine their board, how rows grow, and how they are broken.
 pub mod Growing
 pub mod Breaking
+pub mod Saying
 pub mod Rows
 pub mod Places
 pub mod Peeling

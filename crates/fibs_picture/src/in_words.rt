@@ -16,6 +16,7 @@ mod told;
 mod watched;
 mod words;
 
+pub use broken::append_rows_of;
 pub use fact::Fact;
 pub use listed::Listed;
 pub use side::Side;

@@ -240,7 +240,7 @@ pub piece_low : (t : List ℕ) → 1 ≤ length t → piece_len t ≤ length t
 piece_low t h = (piece-of t h).low
 
 -- some bytes, and some of what follows
-take-more : (a n : ℕ) (xs : List ℕ) → take (a + n) xs ≡ take a xs ++ take n (drop a xs)
+pub take-more : (a n : ℕ) (xs : List ℕ) → take (a + n) xs ≡ take a xs ++ take n (drop a xs)
 take-more zero n xs = ap (λ m. take m xs) (zero-plus n)
 take-more (suc a) n [] = take-none (suc a + n) ∙ sym (take-none n)
 take-more (suc a) n (x ∷ xs) =
@@ -253,7 +253,7 @@ index-more (suc a) n [] = none-there n ∙ sym (none-there (suc a + n))
 index-more (suc a) n (x ∷ xs) = index-more a n xs ∙ sym (ap (slice_index (x ∷ xs)) (suc-plus a n))
 
 -- how much follows
-length-more : (a : ℕ) (xs : List ℕ) → a ≤ length xs → a + length (drop a xs) ≡ length xs
+pub length-more : (a : ℕ) (xs : List ℕ) → a ≤ length xs → a + length (drop a xs) ≡ length xs
 length-more zero xs h = zero-plus (length xs)
 length-more (suc a) [] h = absurd (omega (arith, h))
 length-more (suc a) (x ∷ xs) h = omega (arith, length-more a xs (omega (arith, h)))
@@ -275,7 +275,7 @@ plus-none : (n : ℕ) → n + 0 ≡ n
 plus-none n = omega arith
 
 -- all bytes of a row
-take-whole : (n : ℕ) (xs : List ℕ) → length xs ≤ n → take n xs ≡ xs
+pub take-whole : (n : ℕ) (xs : List ℕ) → length xs ≤ n → take n xs ≡ xs
 take-whole zero [] h = refl
 take-whole zero (x ∷ xs) h = absurd (omega (arith, h))
 take-whole (suc n) [] h = refl

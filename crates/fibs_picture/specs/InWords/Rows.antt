@@ -82,7 +82,17 @@ rejoined (x ∷ xs) = if (x == 10) && goes_on xs then rejoined xs else x ∷ rej
 abbrev pub HasRoom : ℕ → List ℕ → Type 0
 HasRoom columns row = (length row ≤ columns) ⊎ (list_all (λ x. not (x == 32)) (drop 1 row) ≡ true)
 
+-- a text with the end of its last row, if it has a row
+abbrev pub all_ended : List ℕ → List ℕ
+all_ended [] = []
+all_ended (x ∷ []) = if x == 10 then x ∷ [] else x ∷ 10 ∷ []
+all_ended (x ∷ y ∷ xs) = x ∷ all_ended (y ∷ xs)
+
 -- a text in rows that have room: they are broken at spaces only, and one that goes on begins with its space
 pub record IsBroken (columns : ℕ) (text broken : List ℕ) : Type 0 where
   pub joined : rejoined broken ≡ rejoined text
   pub rows : (lines : List (List ℕ)) × AllByRecursion (HasRoom columns) lines × (broken ≡ flat_map ended lines)
+
+-- a text is said: it comes behind what is there, in rows that have room
+abbrev pub Says : ℕ → List ℕ → List ℕ → List ℕ → Type 0
+Says columns text before after = (said : List ℕ) × IsBroken columns (all_ended text) said × (after ≡ before ++ said)

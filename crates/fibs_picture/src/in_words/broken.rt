@@ -1,7 +1,9 @@
 //! Rows that are broken at spaces.
-ghost use Rattle.std.specs.Prelude.{◌≡◌, ◌≤◌, ◌++◌, ◌+◌, OnOk, IfOk, length};
+ghost use Rattle.std.specs.Prelude.{◌≡◌, ◌≤◌, ◌++◌, ◌+◌, OnOk, IfOk, drop, length};
+ghost use Rattle.fibs_fields.specs.Split.{before};
 ghost use Rattle.fibs_picture.specs.Fits.{ended};
 ghost use Rattle.fibs_picture.specs.InWords.Breaking.{AddsRows, piece_len, placed, ends_at};
+ghost use Rattle.fibs_picture.specs.InWords.Rows.{Says};
 
 use fibs_fields::split::split;
 use std::alloc::AllocError;
@@ -55,4 +57,44 @@ pub(crate) fn append_broken(
         at = end;
     }
     text.extend_from_slice(b"\n")
+}
+
+/// The row of some rows that begins at a place, without its end.
+fn row_at(rows: &[u8], at: usize) -> &[u8]
+    requires { at ≤ length rows.now }
+    ensures { result.now ≡ before 10 (drop at (ended rows.now)) }
+{
+    split(&rows[at..], b'\n').0
+}
+
+/// Appends rows, the last one of which has no end, each with its end, broken at spaces so that they have room in these
+/// columns.
+fn append_rows(rows: &[u8], columns: usize, text: &mut Vec<u8>) -> Result<(), AllocError>
+    ensures { OnOk result (AddsRows columns (ended rows.now) text.old.items text.new.items) }
+{
+    let mut at = 0;
+    while at <= rows.len() {
+        let row = row_at(rows, at);
+        append_broken(row, columns, text)?;
+        at += row.len() + 1;
+    }
+    Ok(())
+}
+
+/// Appends a text in rows that have room in these columns: a row that has none is broken at spaces, and what goes on
+/// begins with its space. If the last row has no end it gets one.
+///
+/// Errors: if memory runs out.
+pub fn append_rows_of(said: &[u8], columns: usize, text: &mut Vec<u8>) -> Result<(), AllocError>
+    ensures { OnOk result (Says columns said.now text.old.items text.new.items) }
+{
+    if said.is_empty() {
+        return Ok(());
+    }
+    let last = said.len() - 1;
+    if said[last] == b'\n' {
+        append_rows(&said[..last], columns, text)
+    } else {
+        append_rows(said, columns, text)
+    }
 }
