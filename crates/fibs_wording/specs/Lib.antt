@@ -5,5 +5,7 @@ pub mod Invitations
 pub mod Matches
 pub mod Rated
 pub mod Rematch
+pub mod SavedLists
 pub mod SavedMatches
 pub mod ServerWords
+pub mod SettingWords

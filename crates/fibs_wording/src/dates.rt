@@ -1,4 +1,6 @@
 //! Dates and times in words.
+ghost use Rattle.std.specs.Prelude.{◌≡◌, ◌++◌, None, OnOk};
+ghost use Rattle.fibs_wording.specs.Matches.{unknown};
 
 use crate::environment::pieces::append_all;
 use crate::environment::{ClockTime, Zone};
@@ -70,7 +72,9 @@ pub fn append_stamp(
     seconds: Option<u64>,
     zone: &Zone<'_>,
     text: &mut Vec<u8>,
-) -> Result<(), AllocError> {
+) -> Result<(), AllocError>
+    ensures { seconds ≡ None → OnOk result (text.new.items ≡ text.old.items ++ unknown) }
+{
     let Some(seconds) = seconds else {
         return text.extend_from_slice(b"-");
     };

@@ -63,12 +63,13 @@ help WORD says more about a word.
 const ROLL: &[u8] = b"roll (or r): rolls your dice.\n";
 
 const MOVE: &[u8] = b"\
-move 8-5 6-5: each step from its place to its place, in the numbers of the\n\
-board. bar-20 enters a checker, 3-off bears one off. You may also type:\n\
-  8-5 6-5    8/5 6/5    m 8/5 6/5\n\
-  8/5(2)     twice\n\
-  24/18/13   one checker, two steps; 24/13 too, if it can go one way only\n\
-plays lists the legal moves.\n";
+move 8-5 6-5: each step from its place to its place, in the numbers of the
+board. bar-20 enters a checker, 3-off bears one off. You may also type:
+  8-5 6-5    8/5 6/5    m 8/5 6/5
+  8/5(2)     twice
+  24/18/13   one checker, two steps; 24/13 too, if it can go one way only
+plays lists the legal moves.
+";
 
 const ORDER: &[u8] = b"\
 order roll: from the next board on the client rolls if you may not double.\n\
@@ -173,7 +174,7 @@ It counts from the next login on: fix turns it off, and logs in again.\n",
     (
         b"fix",
         b"fix: if the server plays for you by itself, turns that off (toggle automove,\n\
-toggle greedy), leaves and logs in again: it counts from the next login on.\n\
+toggle greedy), and if it did at the login, leaves and logs in again.\n\
 Nothing else is sent. In a match bye asks first, and a second bye leaves.\n",
     ),
     (

@@ -1,6 +1,8 @@
 //! The user's matches that the server has saved, as far as it has said so.
-ghost use Rattle.std.specs.Prelude.{◌≡◌, ◌++◌, OnOk};
+ghost use Rattle.std.specs.Prelude.{◌≡◌, ◌++◌, [], IfSome, OnOk, decimal, option_map, true};
+ghost use Rattle.fibs_fields.specs.Bytes.{name_bytes};
 ghost use Rattle.fibs_wording.specs.SavedMatches.{here_words, length_words, match_words, score_words};
+ghost use Rattle.fibs_wording.specs.SavedLists.{HearsList, IsHead, IsRow, IsStarred, Keeps, SaysLength, head_words, in_front, match_of, saved_with, without, words};
 
 use crate::environment::pieces::short_name;
 use fibs_fields::boards::fields::UNLIMITED;
@@ -11,16 +13,6 @@ use std::alloc::{AllocError, Global};
 
 /// How many are kept: who has more has to ask the server.
 const MOST_KEPT: usize = 100;
-
-/// The words with which the answer to `show saved` begins: a row for each match follows.
-static LIST_HEAD: [&[u8]; 6] = [
-    b"opponent",
-    b"matchlength",
-    b"score",
-    b"(your",
-    b"points",
-    b"first)",
-];
 
 /// What the server answers if there is none.
 const NONE: &[u8] = b"no saved games.";
@@ -57,15 +49,19 @@ struct Row<'a> {
 }
 
 /// A text without the spaces in front of it.
-fn after_spaces(text: &[u8]) -> &[u8] {
+fn after_spaces(text: &[u8]) -> &[u8]
+    ensures { words result.now ≡ words text.now }
+{
     match text.iter().position(|byte| *byte != b' ') {
         None => b"",
-        Some(at) => text.get(at..).unwrap_or(b""),
+        Some(at) => &text[at..],
     }
 }
 
 /// The first word of a text, and what follows it.
-fn first_word(text: &[u8]) -> (&[u8], &[u8]) {
+fn first_word(text: &[u8]) -> (&[u8], &[u8])
+    ensures { words text.now ≡ in_front result.0.now (words result.1.now) }
+{
     let (word, rest) = split(after_spaces(text), b' ');
     match rest {
         None => (word, b""),
@@ -73,38 +69,66 @@ fn first_word(text: &[u8]) -> (&[u8], &[u8]) {
     }
 }
 
-/// The words with which the answer to `show saved` begins.
-fn head_words() -> &'static [&'static [u8]] {
-    &LIST_HEAD
+/// What follows the first word of a text, if it is this one.
+fn after_word<'a>(text: &'a [u8], word: &[u8]) -> Option<&'a [u8]>
+    ensures { IfSome result (λ rest. words text.now ≡ in_front word.now (words rest.now)) }
+{
+    let (first, rest) = first_word(text);
+    if first == word { Some(rest) } else { None }
 }
 
-/// Whether a text is how that answer begins, with any spaces between its words. Below other words the numbers of a row
-/// may say something else.
-fn is_head(text: &[u8]) -> bool {
-    let mut rest = text;
-    for head in head_words() {
-        let (word, after) = first_word(rest);
-        if word != *head {
-            return false;
-        }
-        rest = after;
+/// What follows the words with which the answer to `show saved` begins, if a text begins with them.
+fn after_head(text: &[u8]) -> Option<&[u8]>
+    ensures { IfSome result (λ rest. words text.now ≡ head_words ++ words rest.now) }
+{
+    let rest = after_word(text, b"opponent")?;
+    let rest = after_word(rest, b"matchlength")?;
+    let rest = after_word(rest, b"score")?;
+    let rest = after_word(rest, b"(your")?;
+    let rest = after_word(rest, b"points")?;
+    let rest = after_word(rest, b"first)")?;
+    Some(rest)
+}
+
+/// Whether a text has no words.
+fn is_blank(text: &[u8]) -> bool
+    ensures { result ≡ true → words text.now ≡ [] }
+{
+    after_spaces(text).is_empty()
+}
+
+/// Whether a text is how that answer begins, with any spaces between its words; a row for each match follows. Below
+/// other words the numbers of a row may say something else.
+fn is_head(text: &[u8]) -> bool
+    ensures { result ≡ true → IsHead text.now }
+{
+    match after_head(text) {
+        None => false,
+        Some(rest) => is_blank(rest),
     }
-    after_spaces(rest).is_empty()
 }
 
 /// A name without the stars in front of it: they say that its player is logged in, and ready.
-fn after_stars(name: &[u8]) -> &[u8] {
-    let once = name.strip_prefix(b"*").unwrap_or(name);
-    once.strip_prefix(b"*").unwrap_or(once)
+fn after_stars(name: &[u8]) -> &[u8]
+    ensures { IsStarred name.now result.now }
+{
+    match name {
+        [b'*', b'*', rest @ ..] | [b'*', rest @ ..] => rest,
+        _ => name,
+    }
 }
 
 /// A number of points.
-fn points_in(word: &[u8]) -> Option<u64> {
+fn points_in(word: &[u8]) -> Option<u64>
+    ensures { IfSome result (λ points. word.now ≡ decimal points) }
+{
     read_decimal(word, MOST_POINTS)
 }
 
 /// The length that a word says: None inside if it is unlimited.
-fn length_in(word: &[u8]) -> Option<Option<u64>> {
+fn length_in(word: &[u8]) -> Option<Option<u64>>
+    ensures { IfSome result (λ length. SaysLength word.now length) }
+{
     if word == b"unlimited".as_slice() {
         return Some(None);
     }
@@ -117,20 +141,26 @@ fn length_in(word: &[u8]) -> Option<Option<u64>> {
 }
 
 /// The row that a text is: a name, a length, the user's points, a dash, and the other player's.
-fn read_row(text: &[u8]) -> Option<Row<'_>> {
+fn read_row(text: &[u8]) -> Option<Row<'_>>
+    ensures { IfSome result (λ row. IsRow text.now (match_of (name_bytes row.name) row.own row.other row.length)) }
+{
     let (name, rest) = first_word(text);
     let (length, rest) = first_word(rest);
     let (own, rest) = first_word(rest);
-    let (dash, rest) = first_word(rest);
+    let rest = after_word(rest, b"-")?;
     let (other, rest) = first_word(rest);
-    if dash != b"-".as_slice() || !after_spaces(rest).is_empty() {
+    if !is_blank(rest) {
         return None;
     }
+    let name = Name::new(after_stars(name))?;
+    let own = points_in(own)?;
+    let other = points_in(other)?;
+    let length = length_in(length)?;
     Some(Row {
-        name: Name::new(after_stars(name))?,
-        own: points_in(own)?,
-        other: points_in(other)?,
-        length: length_in(length)?,
+        name,
+        own,
+        other,
+        length,
     })
 }
 
@@ -142,20 +172,19 @@ impl SavedMatches {
         }
     }
 
-    /// Where the match with a player is.
-    fn place_of(&self, name: &[u8]) -> Option<usize> {
+    /// The match with a player that was saved, as far as is known.
+    pub fn with(&self, name: &[u8]) -> Option<&SavedMatch>
+        ensures { option_map (λ saved. saved.now) result ≡ saved_with name.now self.now.matches.items }
+    {
         self.matches
             .iter()
-            .position(|saved| saved.name.as_slice() == name)
-    }
-
-    /// The match with a player that was saved, as far as is known.
-    pub fn with(&self, name: &[u8]) -> Option<&SavedMatch> {
-        self.matches.get(self.place_of(name)?)
+            .find(|saved| saved.name.as_slice() == name)
     }
 
     /// The match with a player goes on, or is over, or there is none.
-    pub fn forget(&mut self, name: &[u8]) {
+    pub fn forget(&mut self, name: &[u8])
+        ensures { self.new.matches.items ≡ without name.now self.old.matches.items }
+    {
         self.matches.retain(|saved| saved.name.as_slice() != name);
     }
 
@@ -169,7 +198,10 @@ impl SavedMatches {
         own: u64,
         other: u64,
         length: Option<u64>,
-    ) -> Result<(), AllocError> {
+    ) -> Result<(), AllocError>
+        ensures { OnOk result (Keeps (match_of name.now own other length)
+            self.old.matches.items self.new.matches.items) }
+    {
         self.forget(name);
         if self.matches.len() >= MOST_KEPT {
             return Ok(());
@@ -188,31 +220,33 @@ impl SavedMatches {
     /// kept in `lists`.
     ///
     /// Errors: if memory runs out; then its match is not kept.
+    #[tactic(auto, using(crate::proofs::SavedLemmas::hears_row))]
     pub fn hear_text(
         &mut self,
         alloc: Global,
         text: &[u8],
         lists: &mut bool,
-    ) -> Result<(), AllocError> {
-        let trimmed = after_spaces(text);
-        if is_head(trimmed) {
+    ) -> Result<(), AllocError>
+        ensures { OnOk result (HearsList text.now lists.old self.old.matches.items lists.new self.new.matches.items) }
+    {
+        if is_head(text) {
             self.matches.clear();
             *lists = true;
             return Ok(());
         }
-        if trimmed == NONE {
+        if after_spaces(text) == NONE {
             self.matches.clear();
+            *lists = false;
+            return Ok(());
         }
         if !*lists {
             return Ok(());
         }
-        match read_row(trimmed) {
-            None => {
-                *lists = false;
-                Ok(())
-            }
-            Some(row) => self.keep(alloc, row.name.bytes(), row.own, row.other, row.length),
-        }
+        let Some(row) = read_row(text) else {
+            *lists = false;
+            return Ok(());
+        };
+        self.keep(alloc, row.name.bytes(), row.own, row.other, row.length)
     }
 }
 

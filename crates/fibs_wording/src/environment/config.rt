@@ -1,4 +1,6 @@
 //! A file of the user's own settings.
+ghost use Rattle.std.specs.Prelude.{◌≡◌};
+ghost use Rattle.fibs_wording.specs.SettingWords.{numbers_in};
 
 use fibs_fields::split::split;
 use fibs_position::Numbers;
@@ -64,11 +66,15 @@ pub enum Setting<'a> {
 }
 
 /// Whose numbers a word says: `own` or `server`.
-pub fn read_numbers(word: &[u8]) -> Option<Numbers> {
-    match word {
-        b"own" => Some(Numbers::TheOwn),
-        b"server" => Some(Numbers::TheServers),
-        _ => None,
+pub fn read_numbers(word: &[u8]) -> Option<Numbers>
+    ensures { result ≡ numbers_in word.now }
+{
+    if word == b"own".as_slice() {
+        Some(Numbers::TheOwn)
+    } else if word == b"server".as_slice() {
+        Some(Numbers::TheServers)
+    } else {
+        None
     }
 }
 
@@ -99,40 +105,67 @@ fn letters_in(own: &[u8], other: &[u8]) -> Option<[u8; 2]> {
     }
 }
 
+/// The lines of fixed words, each with what it asks for.
+const FIXED: [(&[u8], Setting<'static>); 14] = [
+    (b"", Setting::Nothing),
+    (b"quiet", Setting::Quiet),
+    (b"arrivals", Setting::Arrivals),
+    (b"words", Setting::Words(Telling::Long)),
+    (b"words long", Setting::Words(Telling::Long)),
+    (b"words short", Setting::Words(Telling::Short)),
+    (b"no colour", Setting::NoColour),
+    (b"no color", Setting::NoColour),
+    (b"no bell", Setting::NoBell),
+    (b"no title", Setting::NoTitle),
+    (b"no record", Setting::NoRecord),
+    (b"order roll", Setting::OrderRoll),
+    (b"reconnect", Setting::Reconnect),
+    (b"home above", Setting::HomeAbove),
+];
+
+/// What a line of fixed words asks for. None for any other line.
+fn read_fixed(line: &[u8]) -> Option<Setting<'static>> {
+    for (words, setting) in &FIXED {
+        if *words == line {
+            return Some(*setting);
+        }
+    }
+    None
+}
+
+/// The letters of checkers, by what follows `letters`.
+fn read_letters(words: &[u8]) -> Option<[u8; 2]> {
+    let (own, other) = split(words, b' ');
+    letters_in(own, other?)
+}
+
+/// What a line asks for, by its first word and by what follows it. None for any other line.
+fn read_value<'a>(word: &[u8], rest: &'a [u8]) -> Option<Setting<'a>> {
+    match word {
+        b"gag" => Some(Setting::Gag(rest)),
+        b"letters" => Some(Setting::Letters(read_letters(rest)?)),
+        b"numbers" => Some(Setting::Numbers(read_numbers(rest)?)),
+        b"board" => Some(Setting::BoardAbove(read_place(rest)?)),
+        b"server" => is_place(rest).then_some(Setting::Nothing),
+        b"log" => Some(Setting::Nothing),
+        _ => None,
+    }
+}
+
 /// What a line of the file asks for: `quiet`, `arrivals`, `gag NAME`, `words`, `words short`, `no colour`, `no bell`,
 /// `no title`, `no record`, `order roll`, `reconnect`, `letters O X`, `home above`, `numbers own`, `numbers server`,
 /// `board above` or `board below`; `server HOST PORT NAME` and `log FILE` are for who starts the program. None for any
 /// other line.
 pub fn read_setting(line: &[u8]) -> Option<Setting<'_>> {
     let line = line.trim_ascii();
-    match line {
-        b"" => return Some(Setting::Nothing),
-        b"quiet" => return Some(Setting::Quiet),
-        b"arrivals" => return Some(Setting::Arrivals),
-        b"words" | b"words long" => return Some(Setting::Words(Telling::Long)),
-        b"words short" => return Some(Setting::Words(Telling::Short)),
-        b"no colour" | b"no color" => return Some(Setting::NoColour),
-        b"no bell" => return Some(Setting::NoBell),
-        b"no title" => return Some(Setting::NoTitle),
-        b"no record" => return Some(Setting::NoRecord),
-        b"order roll" => return Some(Setting::OrderRoll),
-        b"reconnect" => return Some(Setting::Reconnect),
-        b"home above" => return Some(Setting::HomeAbove),
-        _ => {}
+    if line.starts_with(b"#") {
+        return Some(Setting::Nothing);
     }
-    match split(line, b' ') {
-        (b"gag", Some(name)) => Some(Setting::Gag(name)),
-        (b"letters", Some(letters)) => {
-            let (own, other) = split(letters, b' ');
-            Some(Setting::Letters(letters_in(own, other?)?))
-        }
-        (b"numbers", Some(word)) => Some(Setting::Numbers(read_numbers(word)?)),
-        (b"board", Some(word)) => Some(Setting::BoardAbove(read_place(word)?)),
-        (b"server", Some(place)) if is_place(place) => Some(Setting::Nothing),
-        (b"log", Some(_)) => Some(Setting::Nothing),
-        _ if line.starts_with(b"#") => Some(Setting::Nothing),
-        _ => None,
+    if let Some(setting) = read_fixed(line) {
+        return Some(setting);
     }
+    let (word, rest) = split(line, b' ');
+    read_value(word, rest?)
 }
 
 /// Whether a line says where to connect, and as whom: a host, a port, and a name.

@@ -1,4 +1,5 @@
 //! What is written next at a terminal.
+ghost use Rattle.std.specs.Prelude.{◌≡◌, ◌++◌, ◌-◌, OnOk};
 
 use crate::environment::broken::break_at_spaces;
 use crate::environment::pieces::append_all;
@@ -23,7 +24,10 @@ pub struct Page<'a> {
 
 impl<'a> Page<'a> {
     /// Appends words to what is written next.
-    pub fn say(&mut self, words: &[u8]) -> Result<(), AllocError> {
+    pub fn say(&mut self, words: &[u8]) -> Result<(), AllocError>
+        ensures said { OnOk result (self.new.text.items ≡ self.old.text.items ++ words.now) }
+        ensures settings { self.new.settings ≡ self.old.settings }
+    {
         self.text.extend_from_slice(words)
     }
 
@@ -33,7 +37,9 @@ impl<'a> Page<'a> {
     }
 
     /// How many columns a row of the server's words may have: the last one of the terminal stays free.
-    pub fn columns(&self) -> usize {
+    pub fn columns(&self) -> usize
+        ensures { result ≡ self.now.settings.columns - 1 }
+    {
         self.settings.columns.saturating_sub(1)
     }
 
@@ -45,22 +51,14 @@ impl<'a> Page<'a> {
     }
 
     /// Ends the row that begins at a place. Its words go on in another row if it is wider than the terminal.
-    pub fn end_row(&mut self, start: usize) -> Result<(), AllocError> {
+    fn end_row(&mut self, start: usize) -> Result<(), AllocError> {
         break_at_spaces(start, self.columns(), &mut self.text);
         self.say(b"\n")
     }
 
-    /// Says rows of the screen's own words. Each goes on in another row if it is wider than the terminal.
-    pub fn say_rows(&mut self, words: &[u8]) -> Result<(), AllocError> {
-        let start = self.text.len();
-        self.say(words)?;
-        break_at_spaces(start, self.columns(), &mut self.text);
-        Ok(())
-    }
-
     /// Whether a row of the screen's own words has room for so many bytes.
     pub fn has_room(&self, bytes: usize) -> bool {
-        bytes <= self.settings.columns.min(WIDEST)
+        bytes <= self.columns().min(WIDEST)
     }
 
     /// Says words in a row, and others behind them, or in a row of their own if there is no room.
