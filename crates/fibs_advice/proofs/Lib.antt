@@ -1,5 +1,7 @@
 -- How lists of places grow, what a trial tells, how the steps that a line shows are read, and what is advised.
 mod AdvisedLemmas
+mod BrokenRuleLemmas
 mod PlacesLemmas
+mod SpelledLemmas
 mod TrialLemmas
 pub mod SpellingLemmas

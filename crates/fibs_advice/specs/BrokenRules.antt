@@ -1,7 +1,13 @@
 -- Which rule a move breaks, as a terminal names it (rules of backgammon).
-use Rattle.std.specs.Prelude.{◌≡◌, ◌++◌, ◌+◌, ◌-◌, ◌<◌, ◌≤◌, ◌==◌, ◌&&◌, ◌||◌, ℕ, List, codes, count_by, decimal, nat_lt, nat_le, Bool, not, false, slice_index, if◌then◌else◌}
-use Rattle.fibs_position.specs.DirectionOf.{line_place}
+use Rattle.std.specs.Prelude.{◌≡◌, ◌⊎◌, ◌++◌, ◌∷◌, ◌+◌, ◌-◌, ◌<◌, ◌≤◌, ◌==◌, ◌&&◌, ◌||◌, ℕ, List, [], All, codes, count_by, decimal, length, map, nat_lt, nat_le, Bool, not, true, false, slice_get, slice_index, take, Option, Some, None, IfSome, if◌then◌else◌}
+use Rattle.fibs_fields.specs.Board.{BoardFields, field_of}
+use Rattle.fibs_fields.specs.FieldReading.{natural}
+use Rattle.fibs_position.specs.DirectionOf.{direction_of, line_place}
+use Rattle.fibs_position.specs.First.{IsFirst}
+use Rattle.fibs_position.specs.NumbersOf.{counted}
+use Rattle.fibs_position.specs.OwnView.{standing_of}
 use Rattle.fibs_position.specs.declared.direction.Direction.{Direction}
+use Rattle.fibs_position.specs.declared.numbers.Numbers.{Numbers}
 use Rattle.fibs_rules.specs.Checkers.{Checkers}
 use Rattle.fibs_rules.specs.Hop.{Hop, hop_of}
 use Rattle.fibs_rules.specs.Runs.{IsMost, Standing}
@@ -53,12 +59,61 @@ IsBack c before step B.Outside = IsBehind c before 6
 IsBack c before step B.Behind = IsBehind c before step.source
 IsBack c before step rule = Unit {0}
 
--- a rule of the dice that is named of a whole move holds of it: more dice can be played, so many, than it has steps; or
--- it has one step
-abbrev pub IsOfDice : Standing → ℕ → BrokenRule → Type 0
-IsOfDice standing steps (B.MoreDice most) = IsMost standing most × (steps < most)
-IsOfDice standing steps B.Larger = steps ≡ 1
-IsOfDice standing steps rule = Unit {0}
+-- a step breaks a rule after those before it, with these dice
+abbrev pub BreaksIt : Checkers → ℕ → ℕ → List Step → Step → BrokenRule → Type 0
+BreaksIt c first second before step rule =
+    (holds c first second before (hop_of step) rule ≡ true) × IsBack c before (hop_of step) rule
+
+-- the rules of bearing off, in the order in which one is named
+abbrev pub rules_off : List BrokenRule
+rules_off = B.Outside ∷ B.Behind ∷ []
+
+-- the rules that a step may break, in the order in which one is named
+abbrev pub rules_of : Step → List BrokenRule
+rules_of step = B.Bar ∷ B.Empty step.source ∷ B.Distance step ∷ B.Held step.target ∷ rules_off
+
+-- the first element of a list for which a fact holds; none if it holds of none
+abbrev pub IsFirstIfAny : {X : Type 0} → (X → Type 0) → List X → Option X → Type 0
+IsFirstIfAny fits xs (Some x) = IsFirst fits xs x
+IsFirstIfAny fits xs None = All (λ x. ¬ fits x) xs
+
+-- what is named of a step after those before it: of the rules, the first that it breaks
+abbrev pub IsNamedOf : Checkers → ℕ → ℕ → List Step → Step → Option BrokenRule → Type 0
+IsNamedOf c first second before step named = IsFirstIfAny (BreaksIt c first second before step) (rules_of step) named
+
+-- none of the first steps of a move, so many, breaks a rule after those before it
+abbrev pub KeepsUntil : Checkers → ℕ → ℕ → List Step → ℕ → Type 0
+KeepsUntil c first second steps count = (at : ℕ) → at < count
+    → IfSome (slice_get steps at) (λ step. IsNamedOf c first second (take at steps) step None)
+
+-- the rule of the dice that is named of a move of so many steps: as many dice as can be played are to be, or, if it has
+-- one step, the larger die
+abbrev pub dice_rule : ℕ → ℕ → Option BrokenRule
+dice_rule most steps =
+    if nat_lt steps most then Some (B.MoreDice most) else if steps == 1 then Some B.Larger else None
+
+-- a rule is named of the first step of a move that breaks one
+pub record IsOfStep (c : Checkers) (first second : ℕ) (steps : List Step) (found : Option BrokenRule) : Type 0 where
+  pub at : ℕ
+  pub step : Step
+  pub rule : BrokenRule
+  pub is : slice_get steps at ≡ Some step
+  pub kept : KeepsUntil c first second steps at
+  pub named : found ≡ Some rule
+  pub broken : IsNamedOf c first second (take at steps) step (Some rule)
+
+-- no step of a move breaks a rule: what is named of it is of the dice
+pub record IsOfDice (standing : Standing) (first second : ℕ) (steps : List Step) (found : Option BrokenRule)
+    : Type 0 where
+  pub most : ℕ
+  pub most_dice : IsMost standing most
+  pub kept : KeepsUntil standing.checkers first second steps (length steps)
+  pub named : found ≡ dice_rule most (length steps)
+
+-- what is named of a move: a rule of its steps, else of the dice
+abbrev pub IsNamed : Standing → ℕ → ℕ → List Step → Option BrokenRule → Type 0
+IsNamed standing first second steps named =
+    IsOfStep standing.checkers first second steps named ⊎ IsOfDice standing first second steps named
 
 -- a place by the numbers by which the player goes this way
 abbrev pub place_said : Direction → ℕ → List ℕ
@@ -95,3 +150,16 @@ rule_said way (B.Distance step) =
     of_way (codes "No die plays from ") way (hop_of step).source (hop_of step).target
 rule_said way (B.MoreDice most) = more_dice_said most
 rule_said way B.Larger = codes "The larger die must be played."
+
+-- how it is said; nothing if none is named
+abbrev pub named_said : Direction → Option BrokenRule → List ℕ
+named_said way None = []
+named_said way (Some rule) = rule_said way rule
+
+-- what is named of a move on a board, by its dice, is said in the numbers that the user reads
+pub record SaysBroken (numbers : Numbers) (b : BoardFields) (hops : List Hop) (old new : List ℕ) : Type 0 where
+  pub steps : List Step
+  pub named : Option BrokenRule
+  pub are : map hop_of steps ≡ hops
+  pub is : IsNamed (standing_of b) (natural (field_of b 34)) (natural (field_of b 35)) steps named
+  pub said : new ≡ old ++ named_said (counted numbers (direction_of b)) named

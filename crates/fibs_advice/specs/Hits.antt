@@ -1,8 +1,9 @@
 -- Which checkers a play hits (rules of backgammon), and the row that tells it (the project's own).
-use Rattle.std.specs.Prelude.{◌-◌, ◌++◌, ◌==◌, ◌&&◌, ℕ, Bool, List, [], ◌∷◌, codes, decimal, length, slice_index, take, if◌then◌else◌}
+use Rattle.std.specs.Prelude.{◌-◌, ◌++◌, ◌==◌, ◌&&◌, ℕ, Bool, false, not, nat_lt, List, [], ◌∷◌, codes, decimal, length, map, slice_get, slice_index, take, Option, Some, None, if◌then◌else◌}
 use Rattle.std.specs.List.{filter, list_any, range_with_len}
 use Rattle.fibs_rules.specs.Checkers.{Checkers}
-use Rattle.fibs_rules.specs.Hop.{Hop}
+use Rattle.fibs_rules.specs.Hop.{Hop, hop_of}
+use Rattle.fibs_rules.specs.declared.step.Step.{Step}
 use Rattle.fibs_position.specs.DirectionOf.{line_place}
 use Rattle.fibs_position.specs.declared.direction.Direction.{Direction}
 use Rattle.fibs_advice.specs.declared.hits.Roller.{Roller}
@@ -16,6 +17,20 @@ place_from Other far = far
 -- a step of a play comes to a place
 abbrev pub comes_to : ℕ → List Hop → Bool
 comes_to place steps = list_any (λ step. step.target == place) steps
+
+-- a step that follows others hits: the other side has a single checker where it comes to, and none of them comes there
+abbrev pub hits_after : Checkers → List Hop → Hop → Bool
+hits_after c before step =
+    nat_lt 0 step.target && ((slice_index c.other step.target == 1) && not (comes_to step.target before))
+
+-- a step does, if there is one
+abbrev pub hits_if : Checkers → List Step → Option Step → Bool
+hits_if c before None = false
+hits_if c before (Some step) = hits_after c (map hop_of before) (hop_of step)
+
+-- the step of a play that follows so many
+abbrev pub hits_at : Checkers → List Step → ℕ → Bool
+hits_at c steps place = hits_if c (take place steps) (slice_get steps place)
 
 -- a place so far from the user's bar is one where a play hits: the other side has a single checker there on the board
 -- before, and a step comes there

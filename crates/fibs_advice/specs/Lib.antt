@@ -1,6 +1,7 @@
 pub mod Advised
 pub mod BrokenRules
 pub mod Changes
+pub mod Doubling
 pub mod Hits
 pub mod Leads
 pub mod Listings
@@ -9,6 +10,7 @@ pub mod Offers
 pub mod Passing
 pub mod Rows
 pub mod RowStates
+pub mod Seen
 pub mod Sending
 pub mod Situations
 pub mod Spelled

@@ -1,6 +1,9 @@
 -- A text by which the server tells a move, as `bob moves 12-15 15-18 .` (FIBS), and the same in the user's numbers; and
 -- a command that was sent, with its steps in those (the project's own).
-use Rattle.std.specs.Prelude.{◌++◌, ℕ, List, [], ◌∷◌, Option, Some, None, codes}
+use Rattle.std.specs.Prelude.{◌++◌, ◌&&◌, ◌||◌, ℕ, Bool, false, nat_lt, List, [], ◌∷◌, Option, Some, None, codes}
+use Rattle.std.specs.Str.{bytes_eq}
+use Rattle.fibs_fields.specs.Decimal.{decimal_up_to}
+use Rattle.fibs_fields.specs.Split.{before, after}
 use Rattle.fibs_rules.specs.Hop.{Hop}
 use Rattle.fibs_position.specs.DecisionValue.{DecisionValue, move}
 use Rattle.fibs_position.specs.NumbersOf.{counted}
@@ -32,6 +35,24 @@ sent_text numbers direction command =
 abbrev pub spelled_in : Direction → List ℕ → Option DecisionValue → List ℕ
 spelled_in way line None = line
 spelled_in way line (Some d) = command_of way d
+
+-- a number of a place
+abbrev pub is_number : Option ℕ → Bool
+is_number None = false
+is_number (Some number) = nat_lt 0 number
+
+-- a word names a place: the bar, off, or a number from 1 to 24
+abbrev pub names_place : List ℕ → Bool
+names_place name = bytes_eq name (codes "bar") || (bytes_eq name (codes "off") || is_number (decimal_up_to 24 name))
+
+-- something follows, which names one
+abbrev pub names_target : Option (List ℕ) → Bool
+names_target None = false
+names_target (Some name) = names_place name
+
+-- a word names two places, as a step does
+abbrev pub names_step : List ℕ → Bool
+names_step word = names_place (before 45 word) && names_target (after 45 word)
 
 -- what was sent, in the numbers that the user reads alone
 abbrev pub sent_told : Numbers → Direction → List ℕ → List ℕ

@@ -3,8 +3,11 @@
 use Rattle.std.specs.Prelude.{◌≡◌, ◌⊎◌, ◌&&◌, Bool, not, true, false, Option, Some, None, IfSome}
 use Rattle.fibs_game.specs.declared.refusal.Refusal.{Refusal}
 use Rattle.fibs_game.specs.declared.refusal.Refusal.TheVariants as No
+use Rattle.fibs_fields.specs.Board.{BoardFields}
+use Rattle.fibs_position.specs.Allowed.{allowed_of}
 use Rattle.fibs_position.specs.DecisionValue.{DecisionValue, double, accept, reject, resign, decision_of}
 use Rattle.fibs_position.specs.declared.decision.Decision.{Decision}
+use Rattle.fibs_position.specs.declared.disallowed.Disallowed.{Disallowed}
 use Rattle.fibs_session.specs.History.Machine.{Talk, shown_now, unconfirmed_now, answer_now}
 use Rattle.fibs_session.specs.History.Words.{Ask}
 use Rattle.fibs_advice.specs.Offers.{is_taken}
@@ -92,8 +95,11 @@ abbrev pub is_forbidden : Passing → Bool
 is_forbidden (P.Forbidden why) = true
 is_forbidden passing = false
 
--- how a decision that is typed goes
+-- how a decision that is typed goes; if it is forbidden, for the first reason that the rules have on the board that is
+-- shown
 pub record Passes (t : Talk) (standing : Standing) (d : DecisionValue) (passing : Passing) : Type 0 where
   pub sent : goes passing ≡ true → GoesPast t standing d
   pub taken : GoesPast t standing d → goes passing ≡ true
   pub forbidden : is_forbidden passing ≡ true → IsForbidden t standing d
+  pub reason : (why : Disallowed) → passing ≡ P.Forbidden why → (b : BoardFields) → shown_now t ≡ Some b
+      → allowed_of b d ≡ Some why

@@ -77,7 +77,7 @@ plain_in row = None
 abbrev pub words_before : Row → List ℕ
 words_before R.Nothing = []
 words_before R.Offers = []
-words_before R.NotLoggedIn = codes "Not logged in: wrong name or password? quit, and begin again.\n"
+words_before R.NotLoggedIn = codes "Not logged in: wrong name or password? If nothing follows, type quit.\n"
 words_before R.Undoubled = codes "Your turn: roll; the server refused a double in this game.\n"
 words_before R.Accepted = codes "Your turn: roll; your double is accepted.\n"
 words_before R.ServerPlays = codes "The server plays for you: fix turns it off, and logs in again.\n"

@@ -7,8 +7,11 @@ use Rattle.fibs_fields.specs.Spaces.{without_spaces}
 use Rattle.fibs_fields.specs.Split.{before, after}
 use Rattle.fibs_position.specs.DecisionValue.{move}
 use Rattle.fibs_position.specs.declared.direction.Direction.{Direction}
+use Rattle.fibs_rules.specs.Hop.{Hop}
 use Rattle.fibs_rules.specs.PlayValue.{hops_of}
 use Rattle.fibs_rules.specs.declared.play.Play.{Play}
+use Rattle.fibs_session.specs.History.Machine.{Talk}
+use Rattle.fibs_advice.specs.Spelling.{IsMeantBy, steps_shown}
 
 -- the line without the spaces before its first word
 abbrev pub from_first : List ℕ → List ℕ
@@ -42,7 +45,7 @@ is_talk word = bytes_eq (codes "say") word || (bytes_eq (codes "tell") word || (
 -- names follow, whose capitals stay
 abbrev pub takes_name : List ℕ → Bool
 takes_name word = bytes_eq (codes "invite") word || (bytes_eq (codes "join") word
-    || (bytes_eq (codes "gag") word || bytes_eq (codes "ungag") word))
+    || (bytes_eq (codes "gag") word || (bytes_eq (codes "ungag") word || bytes_eq (codes "matches") word)))
 
 -- the first word of a line, in small letters, with the long word for a short one
 abbrev pub first_word : List ℕ → List ℕ
@@ -65,25 +68,29 @@ abbrev pub word_spelled : List ℕ → List ℕ
 word_spelled line = joined (long_word (before 32 line)) (after 32 line)
 
 -- any other line: all of it in small letters, without the spaces at its ends
-abbrev pub plain_spelled : List ℕ → List ℕ
-plain_spelled line = word_spelled (small (without_spaces (from_first line)))
+abbrev pub small_line : List ℕ → List ℕ
+small_line line = small (without_spaces (from_first line))
 
 -- the line without the spaces at its ends, and its first word in small letters
 abbrev pub small_first : List ℕ → List ℕ
 small_first line = joined (small (before 32 (without_spaces (from_first line))))
     (after 32 (without_spaces (from_first line)))
 
--- a text is the command of a move, by the numbers by which the user goes this way
-pub record IsMove (way : Direction) (text : List ℕ) : Type 0 where
+-- a text is the command of the move that a line shows, by the numbers by which the user goes this way: the move that is
+-- meant by its steps
+pub record IsMove (t : Talk) (way : Direction) (line text : List ℕ) : Type 0 where
+  pub steps : List Hop
+  pub shown : steps_shown way line ≡ Some steps
   pub play : Play
+  pub meant : IsMeantBy t steps (hops_of play)
   pub is : text ≡ command_of way (move (hops_of play))
 
 -- what is appended is such a command
-pub record SaysMove (way : Direction) (old new : List ℕ) : Type 0 where
+pub record SaysMove (t : Talk) (way : Direction) (line old new : List ℕ) : Type 0 where
   pub command : List ℕ
-  pub move : IsMove way command
+  pub move : IsMove t way line command
   pub appended : new ≡ old ++ command
 
--- a line is spelled as these words, or as the move that they say
-abbrev pub Spells : Direction → List ℕ → List ℕ → List ℕ → Type 0
-Spells way words old new = (new ≡ old ++ words) ⊎ SaysMove way old new
+-- a line of small letters is spelled as its words, or as the move that it shows
+abbrev pub Spells : Talk → Direction → List ℕ → List ℕ → List ℕ → Type 0
+Spells t way line old new = (new ≡ old ++ word_spelled line) ⊎ SaysMove t way line old new

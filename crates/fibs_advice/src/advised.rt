@@ -386,6 +386,9 @@ fn row_with_double(client: &Client, situation: &Situation, offers: &Offers, has_
     ensures so { is_so_in result situation.now.standing ≡ true }
     ensures own { (row : Row) → own_row situation.now.standing ≡ Some row → result ≡ row }
     ensures loud { must_speak situation.now.standing ≡ true → result ≢ Row.Nothing }
+    ensures absent { result ≢ Row.Absent }
+    ensures saved { result ≢ Row.Saved }
+    ensures login { result ≢ Row.NotLoggedIn }
 {
     match row_in_game(client, situation, offers, has_way) {
         Row::Offers if offers.double && situation.refuses_double() => Row::Undoubled,
@@ -401,6 +404,9 @@ fn row_of_saved(situation: &Situation, is_listed: bool) -> Row
     ensures undoubled { result ≢ Row.Undoubled }
     ensures so { is_off_table situation.now.standing ≡ true → is_so_in result situation.now.standing ≡ true }
     ensures invited { situation.now.standing ≡ Standing.Invited → result ≡ Row.Invited }
+    ensures absent { result ≡ Row.Absent → is_listed ≡ false }
+    ensures saved { result ≡ Row.Saved → is_listed ≡ true }
+    ensures login { result ≢ Row.NotLoggedIn }
 {
     match situation.standing {
         Standing::Invited => Row::Invited,
@@ -446,6 +452,9 @@ fn row_of(
         must_speak situation.now.standing ≡ true → result ≢ Row.Nothing }
     ensures own { (t : Talk) → StandsAfter client.now t → plays_himself (answer_now t roll) ≡ true →
         situation.now.logs_in ≡ false → (row : Row) → own_row situation.now.standing ≡ Some row → result ≡ row }
+    ensures absent { result ≡ Row.Absent → aside.is_listed ≡ false }
+    ensures saved { result ≡ Row.Saved → aside.is_listed ≡ true }
+    ensures login { result ≡ Row.NotLoggedIn → situation.now.logs_in ≡ true }
 {
     let standing = situation.standing;
     match client.refusal(&Decision::Roll) {
@@ -495,6 +504,11 @@ pub fn advised(
     // A double goes as it is only if the server has refused none in this game, and no offer is before the opponent.
     ensures double { IfOk result (λ a. is_double a.send ≡ false
         × (is_double a.other ≡ true → may_double situation.now ≡ true)) }
+    // The opponent is called absent only if he is not listed, and a saved match is offered only if he is; a login is
+    // called refused only if it was sent, and the server has not greeted the user.
+    ensures absent { IfOk result (λ a. a.row ≡ Row.Absent → aside.is_listed ≡ false) }
+    ensures saved { IfOk result (λ a. a.row ≡ Row.Saved → aside.is_listed ≡ true) }
+    ensures login { IfOk result (λ a. a.row ≡ Row.NotLoggedIn → situation.now.logs_in ≡ true) }
 {
     let standing = situation.standing;
     let offers = offered(alloc, client)?;

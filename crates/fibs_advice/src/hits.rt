@@ -3,7 +3,7 @@ ghost use Rattle.std.specs.Prelude.{◌≡◌, ◌≤◌, ◌++◌, OnOk, IfOk, 
 ghost use Rattle.fibs_position.specs.PositionValue.{position_value};
 ghost use Rattle.fibs_rules.specs.Hop.{hop_of};
 ghost use Rattle.fibs_rules.specs.PlayValue.{hops_of};
-ghost use Rattle.fibs_advice.specs.Hits.{comes_to, hit_on, hit_row, hits_whom, is_hit, joint, kept_if, listed, place_from};
+ghost use Rattle.fibs_advice.specs.Hits.{comes_to, hit_on, hit_row, hits_at, hits_whom, is_hit, joint, kept_if, listed, place_from};
 
 use fibs_fields::decimal::append_number;
 use fibs_position::{Direction, Play, Position, Step};
@@ -63,7 +63,9 @@ fn is_hit(roller: Roller, before: &Position, play: &Play, far: u8) -> bool
 
 /// Whether a step of a play hits: the opponent has a single checker where it comes to, and no step before it comes
 /// there. The position is that before the play, as he sees it who plays.
-pub(crate) fn is_hit_by(before: &Position, steps: &[Step], place: usize) -> bool {
+pub(crate) fn is_hit_by(before: &Position, steps: &[Step], place: usize) -> bool
+    ensures { result ≡ hits_at (position_value before.now).standing.checkers steps.now place }
+{
     if place >= steps.len() {
         return false;
     }

@@ -1,10 +1,12 @@
 //! What may be typed: what the user waits for and what is advised then, what the client takes now, how it may be
-//! spelled, and which rule a move breaks.
+//! spelled, which rule a move breaks, and why one may not double.
 #![tactic(auto)]
 
 pub mod advised;
 mod changes;
+pub mod doubling;
 pub mod hits;
+mod match_state;
 pub mod moved;
 pub mod offers;
 pub mod passing;

@@ -3,7 +3,7 @@ ghost use Rattle.std.specs.Prelude.{◌≡◌, ◌++◌, IfOk, IfSome, OnOk, opt
 ghost use Rattle.fibs_position.specs.DecisionValue.{decision_of};
 ghost use Rattle.fibs_commands.specs.Commands.{steps_text};
 ghost use Rattle.fibs_rules.specs.PlayValue.{hops_of};
-ghost use Rattle.fibs_advice.specs.Moved.{beside_in, beside_text, moved_text, sent_text, sent_told};
+ghost use Rattle.fibs_advice.specs.Moved.{beside_in, beside_text, moved_text, names_place, names_step, sent_text, sent_told};
 
 use crate::spelling::moves::typed_move;
 use fibs_commands::{decision_text, read_command};
@@ -88,15 +88,22 @@ pub fn read_moved<'a>(
 }
 
 /// Whether a word names a place.
-fn is_place(name: &[u8]) -> bool {
-    match name {
-        b"bar" | b"off" => true,
-        _ => matches!(read_decimal(name, 24), Some(1..=24)),
+fn is_place(name: &[u8]) -> bool
+    ensures { result ≡ names_place name.now }
+{
+    if name == b"bar".as_slice() || name == b"off".as_slice() {
+        return true;
+    }
+    match read_decimal(name, 24) {
+        Some(number) => number > 0,
+        None => false,
     }
 }
 
 /// Whether a word names two places, as a step does.
-fn is_step(word: &[u8]) -> bool {
+fn is_step(word: &[u8]) -> bool
+    ensures { result ≡ names_step word.now }
+{
     match split(word, b'-') {
         (source, Some(target)) => is_place(source) && is_place(target),
         (_, None) => false,

@@ -1,6 +1,15 @@
 //! The legal moves of a board.
-ghost use Rattle.std.specs.Prelude.{◌≡◌};
-ghost use Rattle.fibs_advice.specs.Listings.{all_plays};
+ghost use Rattle.std.specs.Prelude.{◌≡◌, ◌≤◌, ◌<◌, ◌+◌, ◌++◌, IfOk, List, OnOk, length, map, vec_len};
+ghost use Rattle.fibs_position.specs.DirectionOf.{direction_of};
+ghost use Rattle.fibs_position.specs.GameOf.{game_of};
+ghost use Rattle.fibs_position.specs.NumbersOf.{counted};
+ghost use Rattle.fibs_position.specs.PlaysOf.{ArePlays};
+ghost use Rattle.fibs_position.specs.PositionValue.{position_of};
+ghost use Rattle.fibs_rules.specs.Hop.{hop_of};
+ghost use Rattle.fibs_rules.specs.PlayValue.{hops_of};
+ghost use Rattle.fibs_rules.specs.declared.play.Play.{Play as ThePlay};
+ghost use Rattle.fibs_advice.specs.Listings.{IsNext, all_plays, chosen, hits_said, is_listed, leaves, listing_from, told_row};
+ghost use Rattle.fibs_advice.specs.Spelling.{place_named};
 
 use crate::hits::{Roller, append_listed, hit_places, is_hit_by};
 use crate::spelling::moves::place_of;
@@ -61,7 +70,9 @@ fn push_cell(
     play: &Play,
     way: Direction,
     cells: &mut Vec<Vec<u8>>,
-) -> Result<(), AllocError> {
+) -> Result<(), AllocError>
+    ensures { OnOk result (vec_len cells.new ≡ vec_len cells.old + 1) }
+{
     let mut cell = Vec::new(alloc);
     let steps = play.steps();
     for place in 0..steps.len() {
@@ -77,7 +88,9 @@ fn cells_of(
     before: &Position,
     plays: &[Play],
     way: Direction,
-) -> Result<Vec<Vec<u8>>, AllocError> {
+) -> Result<Vec<Vec<u8>>, AllocError>
+    ensures { IfOk result (λ cells. vec_len cells ≡ length plays.now) }
+{
     let mut cells = Vec::new(alloc);
     for play in plays {
         push_cell(alloc, before, play, way, &mut cells)?;
@@ -95,7 +108,9 @@ fn widest(cells: &[Vec<u8>]) -> usize {
 }
 
 /// How many cells of a width stand side by side in so many columns: one at least.
-fn side_by_side(width: usize, columns: usize) -> usize {
+fn side_by_side(width: usize, columns: usize) -> usize
+    ensures { 1 ≤ result }
+{
     (columns / width.saturating_add(GAP.len()).max(1)).max(1)
 }
 
@@ -152,6 +167,17 @@ fn append_columns(
     Ok(())
 }
 
+/// Appends in words where a move hits, if it does.
+fn append_hits(way: Direction, places: &[u8], text: &mut Vec<u8>) -> Result<(), AllocError>
+    ensures { OnOk result (text.new.items ≡ text.old.items ++ hits_said way places.now) }
+{
+    if places.is_empty() {
+        return Ok(());
+    }
+    text.extend_from_slice(b", hits on ")?;
+    append_listed(way, places, text)
+}
+
 /// Appends a move in a row, and in words where it hits.
 fn append_told(
     alloc: Global,
@@ -159,14 +185,14 @@ fn append_told(
     play: &Play,
     way: Direction,
     text: &mut Vec<u8>,
-) -> Result<(), AllocError> {
+) -> Result<(), AllocError>
+    ensures { OnOk result (text.new.items ≡ text.old.items
+        ++ told_row way (position_of (game_of game.now)).standing.checkers (hops_of play.now)) }
+{
     text.extend_from_slice(GAP)?;
     text.extend_from_slice(decision_text(&Decision::Move(*play), way).as_bytes())?;
     let places = hit_places(alloc, Roller::Own, game.position(), play)?;
-    if !places.is_empty() {
-        text.extend_from_slice(b", hits on ")?;
-        append_listed(way, places.as_slice(), text)?;
-    }
+    append_hits(way, places.as_slice(), text)?;
     text.extend_from_slice(b"\n")
 }
 
@@ -177,7 +203,10 @@ fn append_all_told(
     plays: &[Play],
     way: Direction,
     text: &mut Vec<u8>,
-) -> Result<usize, AllocError> {
+) -> Result<usize, AllocError>
+    ensures some { IfOk result (λ count. 0 < length plays.now → 0 < count) }
+    ensures within { IfOk result (λ count. count ≤ length plays.now) }
+{
     let count = plays.len().min(MOST_ROWS);
     for play in &plays[..count] {
         append_told(alloc, game, play, way, text)?;
@@ -193,13 +222,26 @@ fn append_all_drawn(
     way: Direction,
     columns: usize,
     text: &mut Vec<u8>,
-) -> Result<usize, AllocError> {
+) -> Result<usize, AllocError>
+    ensures some { IfOk result (λ count. 0 < length plays.now → 0 < count) }
+    ensures within { IfOk result (λ count. count ≤ length plays.now) }
+{
     let cells = cells_of(alloc, game.position(), plays, way)?;
     let width = widest(cells.as_slice());
     let many = side_by_side(width, columns);
     let count = cells.len().min(many.saturating_mul(MOST_ROWS));
     append_columns(&cells.as_slice()[..count], many, width, text)?;
     Ok(count)
+}
+
+/// Whether one of some steps leaves a place.
+fn leaves(place: u8, steps: &[Step]) -> bool
+    ensures { result ≡ leaves place (map hop_of steps.now) }
+{
+    if steps.is_empty() {
+        return false;
+    }
+    steps[0].source() == place || leaves(place, &steps[1..])
 }
 
 /// Which legal moves of a board are listed.
@@ -223,7 +265,9 @@ impl Listing {
     }
 
     /// Those that move a checker from a place of a board, in these numbers: `24`, `bar`. None if it is not a place.
-    pub fn from_place(name: &[u8], game: &GameBoard, numbers: Numbers) -> Option<Listing> {
+    pub fn from_place(name: &[u8], game: &GameBoard, numbers: Numbers) -> Option<Listing>
+        ensures { result ≡ listing_from (place_named (counted numbers (direction_of (game_of game.now))) name.now) }
+    {
         Some(Listing {
             from: Some(place_of(name, numbers.way(game.direction()))?),
             listed: 0,
@@ -231,10 +275,12 @@ impl Listing {
     }
 
     /// Whether a move is one of them.
-    fn includes(&self, play: &Play) -> bool {
+    fn includes(&self, play: &Play) -> bool
+        ensures { result ≡ is_listed self.now.from (hops_of play.now) }
+    {
         match self.from {
             None => true,
-            Some(from) => play.steps().iter().any(|step| step.source() == from),
+            Some(from) => leaves(from, play.steps()),
         }
     }
 
@@ -267,10 +313,12 @@ impl Listing {
 }
 
 /// Pushes the moves that are listed.
-fn push_listed(plays: &[Play], listing: Listing, chosen: &mut Vec<Play>) -> Result<(), AllocError> {
+fn push_listed(plays: &[Play], listing: Listing, found: &mut Vec<Play>) -> Result<(), AllocError>
+    ensures { OnOk result (found.new.items ≡ found.old.items ++ chosen listing plays.now) }
+{
     for play in plays {
         if listing.includes(play) {
-            chosen.push(*play)?;
+            found.push(*play)?;
         }
     }
     Ok(())
@@ -283,7 +331,10 @@ fn append_screen(
     sheet: &Sheet,
     plays: &[Play],
     text: &mut Vec<u8>,
-) -> Result<usize, AllocError> {
+) -> Result<usize, AllocError>
+    ensures some { IfOk result (λ count. 0 < length plays.now → 0 < count) }
+    ensures within { IfOk result (λ count. count ≤ length plays.now) }
+{
     let way = sheet.numbers.way(game.direction());
     if sheet.is_told {
         append_all_told(alloc, game, plays, way, text)
@@ -301,7 +352,10 @@ pub fn append_plays(
     sheet: &Sheet,
     listing: Listing,
     text: &mut Vec<u8>,
-) -> Result<Listing, AllocError> {
+) -> Result<Listing, AllocError>
+    ensures { IfOk result (λ next. (plays : List ThePlay) × ArePlays (game_of game.now) (map hops_of plays)
+        × IsNext listing next plays) }
+{
     let plays = game.position().plays(alloc)?;
     if plays.is_empty() {
         text.extend_from_slice(b"There is nothing to move on this board.\n")?;

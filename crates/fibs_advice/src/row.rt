@@ -134,7 +134,8 @@ impl Row {
     {
         match self {
             Row::Nothing | Row::Offers => b"",
-            Row::NotLoggedIn => b"Not logged in: wrong name or password? quit, and begin again.\n",
+            Row::NotLoggedIn =>
+                b"Not logged in: wrong name or password? If nothing follows, type quit.\n",
             Row::Undoubled => b"Your turn: roll; the server refused a double in this game.\n",
             Row::Accepted => b"Your turn: roll; your double is accepted.\n",
             Row::ServerPlays => b"The server plays for you: fix turns it off, and logs in again.\n",

@@ -1,9 +1,11 @@
 //! Which rule a move breaks.
-ghost use Rattle.std.specs.Prelude.{◌≡◌, ◌≤◌, ◌++◌, length, true, IfSome, IsTrue, OnOk};
+ghost use Rattle.std.specs.Prelude.{◌≡◌, ◌≤◌, ◌↔◌, ◌++◌, length, map, IsTrue, List, OnOk};
+ghost use Rattle.fibs_position.specs.GameOf.{game_of};
 ghost use Rattle.fibs_position.specs.PositionValue.{position_value};
 ghost use Rattle.fibs_rules.specs.Hop.{hop_of};
 ghost use Rattle.fibs_rules.specs.PlayValue.{hops_of};
-ghost use Rattle.fibs_advice.specs.BrokenRules.{IsBack, IsBehind, IsOfDice, distance, holds, is_held, is_played_by, more_dice_said, of_number, of_place, of_way, own_after, place_said, rule_said};
+ghost use Rattle.fibs_rules.specs.declared.step.Step.{Step as TheStep};
+ghost use Rattle.fibs_advice.specs.BrokenRules.{BreaksIt, IsBehind, IsFirstIfAny, IsNamed, IsNamedOf, SaysBroken, distance, is_held, is_played_by, more_dice_said, of_number, of_place, of_way, own_after, place_said, rule_said, rules_off};
 
 use fibs_commands::BAR;
 use fibs_fields::boards::fields::{FIRST_DIE, SECOND_DIE};
@@ -49,7 +51,7 @@ fn checkers_on(position: &Position, steps: &[Step], place: u8) -> usize
 /// Whether a checker of the player is farther back than a place.
 fn is_behind(position: &Position, steps: &[Step], place: u8) -> bool
     requires { length steps.now ≤ 4 }
-    ensures { IsTrue result → IsBehind (position_value position.now).standing.checkers steps.now place }
+    ensures { IsTrue result ↔ IsBehind (position_value position.now).standing.checkers steps.now place }
 {
     for behind in 1..26 {
         if behind > place && checkers_on(position, steps, behind) > 0 {
@@ -89,10 +91,7 @@ fn broken_by(
     step: &Step,
 ) -> Option<BrokenRule>
     requires { length before.now ≤ 4 }
-    ensures holds { IfSome result (λ rule. holds (position_value position.now).standing.checkers dice.0 dice.1
-        before.now (hop_of step.now) rule ≡ true) }
-    ensures back { IfSome result (λ rule. IsBack (position_value position.now).standing.checkers before.now
-        (hop_of step.now) rule) }
+    ensures { IsNamedOf (position_value position.now).standing.checkers dice.0 dice.1 before.now step.now result }
 {
     let source = step.source();
     if source != BAR && checkers_on(position, before, BAR) > 0 {
@@ -123,10 +122,8 @@ fn broken_by_bearing_off(
 ) -> Option<BrokenRule>
     requires off { (hop_of step.now).target ≡ 0 }
     requires few { length before.now ≤ 4 }
-    ensures holds { IfSome result (λ rule. holds (position_value position.now).standing.checkers dice.0 dice.1
-        before.now (hop_of step.now) rule ≡ true) }
-    ensures back { IfSome result (λ rule. IsBack (position_value position.now).standing.checkers before.now
-        (hop_of step.now) rule) }
+    ensures { IsFirstIfAny (BreaksIt (position_value position.now).standing.checkers dice.0 dice.1 before.now step.now)
+        rules_off result }
 {
     let distance = distance_of(step);
     if is_behind(position, before, LAST_OF_HOME) {
@@ -143,8 +140,8 @@ fn broken_by_bearing_off(
 
 /// The rule that a move breaks, if one can be named.
 fn broken_rule(position: &Position, dice: (u8, u8), play: &Play) -> Option<BrokenRule>
-    ensures { IfSome result (λ rule.
-        IsOfDice (position_value position.now).standing (length (hops_of play.now)) rule) }
+    ensures { (steps : List TheStep) × (map hop_of steps ≡ hops_of play.now)
+        × IsNamed (position_value position.now).standing dice.0 dice.1 steps result }
 {
     let steps = play.steps();
     for place in 0..steps.len() {
@@ -253,7 +250,9 @@ pub fn append_rule(
     numbers: Numbers,
     play: &Play,
     text: &mut Vec<u8>,
-) -> Result<(), AllocError> {
+) -> Result<(), AllocError>
+    ensures { OnOk result (SaysBroken numbers (game_of game.now) (hops_of play.now) text.old.items text.new.items) }
+{
     let board = game.board();
     let dice = (board.die(FIRST_DIE), board.die(SECOND_DIE));
     match broken_rule(game.position(), dice, play) {

@@ -2,26 +2,22 @@
 //! a game, a turn, an invitation. When that ends its box is replaced by a new one.
 ghost use Rattle.std.specs.Prelude.{◌≡◌, ◌≢◌, ◌≤◌, ◌↔◌, ◌⊎◌, length, true, false, None, Some, IfSome, IsTrue, is_some};
 ghost use Rattle.arrayvec.specs.ArrayVec.{array_vec_len};
-ghost use Rattle.fibs_fields.specs.StoredBoard.{fields_of};
 ghost use Rattle.fibs_position.specs.GameOf.{game_of};
-ghost use Rattle.fibs_advice.specs.Situations.{IsNewOpponent, inviter_of, is_answer_line, kept_of, met, new_game, new_turn, no_name, is_match_over, is_won, open_offer, opened_with, opponent_of, waiting_after};
-ghost use Rattle.fibs_advice.specs.Standings.{after_confirmed, after_not_invited, is_called};
+ghost use Rattle.fibs_position.specs.Phases.{phase_of};
+ghost use Rattle.fibs_advice.specs.Situations.{GivesNoTurn, IsNewOpponent, NamedAlone, SaysTurnOf, denies_another, game_after, goes_on, hides_turn, inviter_of, kept_of, left_by, left_told, met, new_game, new_turn, no_name, open_offer, opened_with, opponent_of, tells_turn, turn_noted, waiting_after};
+ghost use Rattle.fibs_advice.specs.Standings.{after_confirmed, after_not_invited, is_called, is_owed, is_undoubled};
 
+mod lines;
+
+use crate::match_state::{is_match_over, says_turn_of, tells_turn};
+use crate::situation::lines::{decision_in, is_answer};
 use crate::standing::{Shown, Standing};
 use arrayvec::ArrayVec;
 use fibs_events::told::{Report, Told, read_told};
-use fibs_fields::boards::Board;
-use fibs_fields::boards::fields::{MATCH_LENGTH, OTHER_SCORE, OWN_SCORE, UNLIMITED};
-use fibs_fields::split::split;
 use fibs_fields::trailing_spaces::without_spaces;
 use fibs_lines::LOGIN_PROMPT;
 use fibs_position::{GameBoard, Phase};
 use std::mem;
-
-/// The first words of the commands of decisions: those that are offers, which change no board, and the others.
-const OFFERS: [&[u8]; 2] = [b"double", b"resign"];
-
-const OTHER_DECISIONS: [&[u8]; 4] = [b"roll", b"move", b"accept", b"reject"];
 
 /// The name of a player, kept; empty if none is known.
 pub type KeptName = ArrayVec<u8, 64>;
@@ -75,6 +71,10 @@ struct Turn {
 struct Game {
     /// Whether the server has refused a double in it.
     refuses_double: bool,
+    /// Whether a text has said who has the turn since it came on the table.
+    is_followed: bool,
+    /// Whether the server has said no more of that than that the opponent has the turn, when the match was resumed.
+    is_his: bool,
     /// The turn.
     turn: Turn,
 }
@@ -150,6 +150,8 @@ impl Game {
     {
         Game {
             refuses_double: false,
+            is_followed: false,
+            is_his: false,
             turn: Turn::new(),
         }
     }
@@ -181,27 +183,6 @@ impl Inviter {
     }
 }
 
-/// What waits after a command: None if it is no decision.
-fn decision_in(line: &[u8]) -> Option<Waiting>
-    ensures { result ≡ waiting_after line.now }
-{
-    let word = split(line, b' ').0;
-    if OFFERS.contains(&word) {
-        Some(Waiting::Offer)
-    } else if OTHER_DECISIONS.contains(&word) {
-        Some(Waiting::Other)
-    } else {
-        None
-    }
-}
-
-/// Whether a line is an answer to an offer.
-fn is_answer(line: &[u8]) -> bool
-    ensures { result ≡ is_answer_line line.now }
-{
-    line == b"accept".as_slice() || line == b"reject".as_slice()
-}
-
 /// No name.
 pub fn nobody() -> KeptName
     ensures { result ≡ no_name }
@@ -223,24 +204,6 @@ pub fn is_same(name: &[u8], other: &[u8]) -> bool
     ensures { IsTrue result ↔ (name.now ≡ other.now) }
 {
     name == other
-}
-
-/// Whether a board says that the match is over: a player has the points of its length.
-fn is_match_over(board: &Board) -> bool
-    ensures { result ≡ is_match_over (fields_of board.now) }
-{
-    is_won(
-        board.field(MATCH_LENGTH),
-        board.field(OWN_SCORE),
-        board.field(OTHER_SCORE),
-    )
-}
-
-/// Whether a match of this length is over, in which the sides have these points.
-fn is_won(length: i32, own: i32, other: i32) -> bool
-    ensures { result ≡ is_won length own other }
-{
-    length != UNLIMITED && (length <= own || length <= other)
 }
 
 impl Situation {
@@ -484,7 +447,10 @@ impl Situation {
 
     /// Whether a text says that it is the user's turn, of the board on which the decision was made that was sent: it
     /// was on its way then.
-    fn is_of_old_board(&self, told: Told) -> bool {
+    fn is_of_old_board(&self, told: Told) -> bool
+        ensures { IsTrue result ↔ ((self.now.standing ≡ Standing.Asked)
+            × (self.now.opponent.game.turn.shown ≡ Some told)) }
+    {
         self.standing == Standing::Asked && self.opponent.game.turn.shown == Some(told)
     }
 
@@ -493,6 +459,7 @@ impl Situation {
         ensures same { self.old.opponent.name.items ≡ name.now → self.new ≡ self.old }
         ensures another { array_vec_len self.old.opponent.name ≢ 0 → self.old.opponent.name.items ≢ name.now →
             self.new ≡ met self.old self.new.opponent.name }
+        ensures unknown { array_vec_len self.old.opponent.name ≡ 0 → NamedAlone self.old self.new }
     {
         if is_same(self.opponent.name.as_slice(), name) {
             return;
@@ -513,7 +480,9 @@ impl Situation {
     }
 
     /// Keeps the name that a text has: of who invites the user, or of the opponent.
-    fn keep_name_of(&mut self, report: &Report<'_>) {
+    fn keep_name_of(&mut self, report: &Report<'_>)
+        ensures { tells_turn report.now.told ≡ true → NamedAlone self.old self.new }
+    {
         match report.told {
             Told::Invited => self.keep_inviter(report.name),
             _ if report.name.is_empty() => {}
@@ -524,7 +493,12 @@ impl Situation {
     }
 
     /// Keeps who invites the user. By another one it is another invitation.
-    fn keep_inviter(&mut self, name: &[u8]) {
+    fn keep_inviter(&mut self, name: &[u8])
+        ensures same { self.old.inviter.name.items ≡ name.now → self.new ≡ self.old }
+        ensures another { self.old.inviter.name.items ≢ name.now →
+            self.new ≡ record self.old { inviter = inviter_of self.new.inviter.name } }
+        ensures name { length name.now ≤ 64 → self.new.inviter.name.items ≡ name.now }
+    {
         if self.inviter.name.as_slice() != name {
             self.inviter = Inviter::of(kept_name(name));
         }
@@ -533,9 +507,20 @@ impl Situation {
     /// Hears a text of the server. What it says of the match, if it says anything that counts.
     pub fn hear_text(&mut self, text: &[u8]) -> Option<Told>
         ensures game { (result ≡ Some Told.Begins) ⊎ (result ≡ Some Told.Resumes) → self.new.opponent.game ≡ new_game }
+        // An offer to resign is known then, and a turn that is shown for it is not called the user's.
+        ensures offered { result ≡ Some Told.Resigns → is_owed self.new.standing ≡ true × GivesNoTurn self.new }
         // A text that says nothing that counts changes nothing, and no line of the message of the day counts.
         ensures unheard { result ≡ None → self.new ≡ self.old }
         ensures motd { self.old.is_motd ≡ true → result ≡ None }
+        // One that says the turn of the board on which the user has decided does not count: it was on its way.
+        ensures old { self.old.standing ≡ Standing.Asked →
+            IfSome result (λ told. self.old.opponent.game.turn.shown ≢ Some told) }
+        ensures turn { IfSome result (λ told. tells_turn told ≡ true → self.new.opponent.game
+            ≡ game_after told self.old.standing self.old.waiting self.old.opponent.game) }
+        // The offer that is open when the match ends without a winner is kept; a game that begins has none.
+        ensures left { (result ≡ Some Told.Saved) ⊎ (result ≡ Some Told.NotPlaying) →
+            self.new.opponent.left ≡ open_offer self.old }
+        ensures anew { result ≡ Some Told.Begins → self.new.opponent.left ≡ Left.Nothing }
     {
         if self.is_motd {
             return None;
@@ -548,9 +533,24 @@ impl Situation {
         Some(report.told)
     }
 
+    /// Hears a text that may say who has the turn in a match that is resumed.
+    pub fn hear_turn(&mut self, text: &[u8])
+        ensures standing { self.new.standing ≡ self.old.standing }
+        ensures his { self.new.opponent.game.is_his ≡ true →
+            (self.old.opponent.game.is_his ≡ true) ⊎ SaysTurnOf text.now self.old.opponent.name.items }
+    {
+        let is_anew = self.standing == Standing::Anew && !self.is_motd;
+        if is_anew && says_turn_of(text, self.opponent.name.as_slice()) {
+            self.opponent.game.is_his = true;
+        }
+    }
+
     /// Takes note of what a text says of the turn. A decision that is refused while one waits is the one that waits,
     /// unless an offer was just answered.
-    fn note_turn(&mut self, told: Told) {
+    fn note_turn(&mut self, told: Told)
+        ensures noted { self.new ≡ turn_noted told self.old }
+        ensures resigns { told ≡ Told.Resigns → self.new ≡ self.old }
+    {
         let turn = self.opponent.game.turn;
         let is_due = match told {
             Told::ToRoll | Told::ToMove => true,
@@ -567,6 +567,10 @@ impl Situation {
             turn.shown
         };
         self.opponent.game.turn = Turn { shown, is_due };
+        if tells_turn(told) {
+            self.opponent.game.is_followed = true;
+            self.opponent.game.is_his = false;
+        }
     }
 
     /// The offer that is open, or of which nothing is known any more.
@@ -581,7 +585,9 @@ impl Situation {
     }
 
     /// The offer of which nothing is known after a text.
-    fn left_after(&self, report: &Report<'_>) -> Left {
+    fn left_after(&self, report: &Report<'_>) -> Left
+        ensures { result ≡ left_told report.now.told report.now.name.now self.now }
+    {
         match report.told {
             Told::Saved | Told::NotPlaying => self.open_offer(),
             Told::Resumes if self.opponent.name.as_slice() == report.name => self.opponent.left,
@@ -594,6 +600,8 @@ impl Situation {
     fn denies_another(&self, report: &Report<'_>) -> bool
         ensures begins { report.now.told ≡ Told.Begins → result ≡ false }
         ensures resumes { report.now.told ≡ Told.Resumes → result ≡ false }
+        ensures resigns { report.now.told ≡ Told.Resigns → result ≡ false }
+        ensures denies { result ≡ denies_another report.now.told report.now.name.now self.now }
     {
         match report.told {
             Told::NoMatch => self.opponent.name.as_slice() != report.name,
@@ -617,6 +625,14 @@ impl Situation {
     fn hear_report(&mut self, report: &Report<'_>)
         ensures begins { report.now.told ≡ Told.Begins → self.new.opponent.game ≡ new_game }
         ensures resumes { report.now.told ≡ Told.Resumes → self.new.opponent.game ≡ new_game }
+        ensures offered { report.now.told ≡ Told.Resigns → is_owed self.new.standing ≡ true }
+        ensures given { report.now.told ≡ Told.Resigns → GivesNoTurn self.new }
+        ensures turn { tells_turn report.now.told ≡ true →
+            self.new.opponent.game ≡ game_after report.now.told self.old.standing self.old.waiting
+            self.old.opponent.game }
+        ensures denied { denies_another report.now.told report.now.name.now self.old ≡ true → self.new ≡ self.old }
+        ensures left { denies_another report.now.told report.now.name.now self.old ≡ false →
+            self.new.opponent.left ≡ left_told report.now.told report.now.name.now self.old }
     {
         if self.denies_another(report) {
             return;
@@ -640,7 +656,9 @@ impl Situation {
     }
 
     /// What a board says to who waits.
-    fn shown_by(&self, game: &GameBoard) -> Shown {
+    fn shown_by(&self, game: &GameBoard) -> Shown
+        ensures { goes_on (phase_of (game_of game.now)) ≡ true → is_undoubled result ≡ true }
+    {
         match (game.phase(), self.waiting) {
             (Phase::Over, _) if is_match_over(game.board()) => Shown::MatchOver,
             (Phase::Over, _) => Shown::GameOver,
@@ -657,6 +675,15 @@ impl Situation {
         ensures another { array_vec_len self.old.opponent.name ≢ 0 →
             self.old.opponent.name.items ≢ (game_of game.now).opponent → IsNewOpponent self.new.opponent }
         ensures asked { self.new.asked ≡ BoardAsked.Nothing }
+        // While an offer to resign is open no board of the game that goes on ends that, and none makes a turn the
+        // user's that it may show for the offer.
+        ensures offered { self.old.opponent.name.items ≡ (game_of game.now).opponent →
+            goes_on (phase_of (game_of game.now)) ≡ true → is_owed self.old.standing ≡ true →
+            is_owed self.new.standing ≡ true × GivesNoTurn self.new }
+        // Before a text has said who has the turn, no board without dice makes it the user's.
+        ensures unfollowed { self.old.opponent.name.items ≡ (game_of game.now).opponent →
+            self.old.opponent.game.is_followed ≡ false → self.old.opponent.game.turn.is_due ≡ false →
+            self.new.opponent.game.turn.shown ≡ Some Told.ToRoll → self.new.opponent.game.turn.is_due ≡ false }
     {
         self.meet(game.board().opponent().bytes());
         let shown = self.shown_by(game);
@@ -670,7 +697,22 @@ impl Situation {
         };
         self.opponent.game.turn.is_due = self.is_due_now();
         self.note_given_turn();
+        self.note_his_turn(game.phase());
         self.note_left(game.phase());
+    }
+
+    /// Takes note of a turn before the dice that a board gives to the user, though the server has said that the
+    /// opponent has it: so an offer of his may be open, of which nothing is known.
+    fn note_his_turn(&mut self, phase: Phase)
+        ensures { self.new ≡ record self.old {
+          opponent = record self.old.opponent {
+            left = left_by self.old.opponent.game.is_his phase self.old.opponent.left;
+          };
+        } }
+    {
+        if self.opponent.game.is_his && phase == Phase::RollOrDouble {
+            self.opponent.left = Left::Theirs;
+        }
     }
 
     /// Takes note of an offer of which nothing is known any more. The opponent may wait for the answer to his if a
@@ -681,6 +723,10 @@ impl Situation {
         ensures left { self.old.opponent.left ≡ Left.Nothing → self.new.opponent.left ≡ Left.Nothing }
         ensures double { self.new.opponent.game.refuses_double ≡ self.old.opponent.game.refuses_double }
         ensures asked { self.new.asked ≡ self.old.asked }
+        ensures owed { is_owed self.old.standing ≡ true → self.new.standing ≡ self.old.standing }
+        ensures given { GivesNoTurn self.old → GivesNoTurn self.new }
+        ensures shown { self.new.opponent.game.turn.shown ≡ self.old.opponent.game.turn.shown }
+        ensures due { self.old.opponent.game.turn.is_due ≡ false → self.new.opponent.game.turn.is_due ≡ false }
     {
         let (left, unsure) = match (self.opponent.left, phase) {
             (Left::Theirs, Phase::OpponentActs | Phase::RollOrDouble) => (
@@ -702,6 +748,8 @@ impl Situation {
     fn note_given_turn(&mut self)
         ensures opponent { self.new.opponent ≡ self.old.opponent }
         ensures asked { self.new.asked ≡ self.old.asked }
+        ensures owed { is_owed self.new.standing ≡ is_owed self.old.standing }
+        ensures given { GivesNoTurn self.new }
     {
         let turn = self.opponent.game.turn;
         self.standing = match (self.standing, turn.shown) {
@@ -712,13 +760,26 @@ impl Situation {
         };
     }
 
-    /// Whether the user has the turn after a board, if no decision waits that was made before it. A board that may show
-    /// an offer to resign gives the turn away: then the user's dice alone say that the turn is his.
-    fn is_due_now(&self) -> bool {
+    /// Whether the board that came last may show an offer to resign as a turn given away: then the user's dice alone
+    /// say that the turn is his. One is open or was just answered; or no text has said who has the turn since the game
+    /// came on the table, and one that was open then is told after its board.
+    fn hides_turn(&self) -> bool
+        ensures { result ≡ hides_turn self.now.standing self.now.opponent.game }
+    {
+        match self.opponent.game.turn.shown {
+            Some(Told::ToMove) => false,
+            Some(Told::ToRoll) if !self.opponent.game.is_followed => true,
+            _ => self.standing.owes_answer() || self.standing == Standing::Answered,
+        }
+    }
+
+    /// Whether the user has the turn after a board, if no decision waits that was made before it.
+    fn is_due_now(&self) -> bool
+        ensures { hides_turn self.now.standing self.now.opponent.game ≡ true →
+            result ≡ self.now.opponent.game.turn.is_due }
+    {
         let turn = self.opponent.game.turn;
-        let has_offer = self.standing.owes_answer() || self.standing == Standing::Answered;
-        let is_hidden = has_offer && turn.shown != Some(Told::ToMove);
-        if is_hidden || (self.waiting != Waiting::Nothing && !self.standing.repeats()) {
+        if self.hides_turn() || (self.waiting != Waiting::Nothing && !self.standing.repeats()) {
             turn.is_due
         } else {
             turn.shown.is_some()

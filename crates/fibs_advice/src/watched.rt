@@ -1,4 +1,6 @@
 //! What a text of the server says of a game that the user watches.
+ghost use Rattle.std.specs.Prelude.{◌≡◌, ◌↔◌, Some, true};
+ghost use Rattle.fibs_advice.specs.Seen.{begins_watching, ends_watching};
 
 use fibs_events::told::{Told, read_told};
 use fibs_fields::trailing_spaces::without_spaces;
@@ -23,7 +25,10 @@ pub enum Seen<'a> {
 }
 
 /// What a text of the server says of a game that the user watches, if it says anything of one.
-pub fn read_seen(text: &[u8]) -> Option<Seen<'_>> {
+pub fn read_seen(text: &[u8]) -> Option<Seen<'_>>
+    ensures begins { (result ≡ Some Seen.Begins) ↔ (begins_watching text.now ≡ true) }
+    ensures ends { (result ≡ Some Seen.Ends) ↔ (ends_watching text.now ≡ true) }
+{
     let text = without_spaces(text);
     if text.starts_with(WATCHES) {
         return Some(Seen::Begins);

@@ -8,7 +8,7 @@ ghost use Rattle.fibs_session.specs.Calls.Standing.{StandsAfter};
 ghost use Rattle.fibs_session.specs.History.Machine.{Talk, shown_now};
 ghost use Rattle.fibs_session.specs.Typing.{way_now};
 ghost use Rattle.fibs_advice.specs.Sending.{rules_allow};
-ghost use Rattle.fibs_advice.specs.Spelled.{IsMove, Spells, first_word, from_first, is_talk, joined, long_word, name_spelled, plain_spelled, small, small_first, takes_name, talk_spelled, word_spelled};
+ghost use Rattle.fibs_advice.specs.Spelled.{IsMove, Spells, first_word, from_first, is_talk, joined, long_word, name_spelled, small, small_first, small_line, takes_name, talk_spelled};
 ghost use Rattle.fibs_advice.specs.Spelling.{IsMeantBy, IsReadAs, LeadsSame, steps_shown};
 
 use crate::advised::is_allowed;
@@ -26,7 +26,7 @@ const TALK: [&[u8]; 8] = [
 ];
 
 /// The words that names follow.
-const NAMING: [&[u8]; 4] = [b"invite", b"join", b"gag", b"ungag"];
+const NAMING: [&[u8]; 5] = [b"invite", b"join", b"gag", b"ungag", b"matches"];
 
 /// What follows the spaces before the first word.
 fn from_first_word(line: &[u8]) -> &[u8]
@@ -130,7 +130,7 @@ fn move_command(
     line: &[u8],
 ) -> Result<Option<CommandText>, AllocError>
     ensures { IfOk result (λ found. IfSome found (λ command. (t : Talk) → StandsAfter client.now t →
-        IsMove (way_now numbers t) (text_of command))) }
+        IsMove t (way_now numbers t) line.now (text_of command))) }
 {
     match shown_move(alloc, client, numbers, line)? {
         None => Ok(None),
@@ -162,7 +162,7 @@ fn append_meaning(
     text: &mut Vec<u8>,
 ) -> Result<(), AllocError>
     ensures { OnOk result ((t : Talk) → StandsAfter client.now t →
-        Spells (way_now numbers t) (word_spelled line.now) text.old.items text.new.items) }
+        Spells t (way_now numbers t) line.now text.old.items text.new.items) }
 {
     let (word, rest) = split(line, b' ');
     match move_command(alloc, client, numbers, line)? {
@@ -180,7 +180,7 @@ fn append_plain(
     text: &mut Vec<u8>,
 ) -> Result<(), AllocError>
     ensures { OnOk result ((t : Talk) → StandsAfter client.now t →
-        Spells (way_now numbers t) (word_spelled (small line.now)) text.old.items text.new.items) }
+        Spells t (way_now numbers t) (small line.now) text.old.items text.new.items) }
 {
     let small = line.to_ascii_lowercase(alloc)?;
     append_meaning(alloc, client, numbers, small.as_slice(), text)
@@ -214,7 +214,7 @@ pub fn append_spelled(
         OnOk result (text.new.items ≡ text.old.items ++ name_spelled line.now) }
     ensures plain { is_talk (first_word line.now) ≡ false → takes_name (first_word line.now) ≡ false →
         OnOk result ((t : Talk) → StandsAfter client.now t →
-        Spells (way_now numbers t) (plain_spelled line.now) text.old.items text.new.items) }
+        Spells t (way_now numbers t) (small_line line.now) text.old.items text.new.items) }
 {
     let line = from_first_word(line);
     let (word, rest) = split(line, b' ');
