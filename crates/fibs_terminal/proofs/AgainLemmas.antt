@@ -1,8 +1,8 @@
 -- When a lost connection is opened again.
-use Rattle.std.proofs.Common.{◌≡◌, ◌≤◌, ◌*◌, ◌^◌, ℕ, zero, suc, Bool, true, false, List, [], ◌∷◌, refl, ap, ◌∙◌, arith}
-use Rattle.std.specs.Prelude.{◌&&◌, ◌||◌, not, cond, min}
+use Rattle.std.proofs.Common.{◌≡◌, ◌≤◌, ◌++◌, ◌*◌, ◌^◌, ℕ, zero, suc, Bool, true, false, List, [], ◌∷◌, refl, ap, ◌∙◌, arith}
+use Rattle.std.specs.Prelude.{◌&&◌, ◌||◌, Result, Ok, Err, OnOk, not, cond, min}
 use Rattle.fibs_terminal.specs.declared.reconnecting.Reconnecting.{Reconnecting}
-use Rattle.fibs_terminal.specs.Again.{EndsByLeave, EndsByTwo, Happening, OpensAgain, TriesIfAsked, after_all, after_lost, after_stay, failed, goes_on, greeted, left, lost, made, next_wait, unmade}
+use Rattle.fibs_terminal.specs.Again.{EndsByLeave, EndsByTwo, Happening, OpensAgain, SaysEnd, TriesIfAsked, after_all, after_lost, after_stay, end_words, failed, goes_on, greeted, left, lost, made, next_wait, unmade}
 
 -- a power of 2 is 1 or more
 one_or_more : (n : ℕ) → 1 ≤ 2 ^ n
@@ -72,3 +72,13 @@ opens_again = record {
   two = by_two;
   asked = if_asked;
 }
+
+-- what is said at the end is that the server has closed it, if the user has taken leave
+pub ends_so : {E : Type 0} (result : Result (Unit {0}) E) (r : Reconnecting) (has_left fixes : Bool)
+    (words before after : List ℕ) → has_left ≡ r.leaves → words ≡ end_words has_left fixes
+    → OnOk result (after ≡ before ++ words) → OnOk result (SaysEnd r before after)
+ends_so (Ok x) r has_left fixes words before after has is said = λ leaves. (
+  fixes,
+  said ∙ ap (λ w. before ++ w) (is ∙ ap (λ h. end_words h fixes) (has ∙ leaves)),
+)
+ends_so (Err x) r has_left fixes words before after has is said = tt

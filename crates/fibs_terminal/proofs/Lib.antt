@@ -1,5 +1,6 @@
 -- Why what the eye sees tells a board, what was written is kept, `go` sends the move that `try` showed, a decision goes
--- past the client only on the server's word, and who would leave a match is asked once.
+-- past the client only on the server's word, and who would leave a match, or begins one for which the server plays, is
+-- asked once.
 pub mod AgainLemmas
 pub mod GrownLemmas
 pub mod AboveLemmas
@@ -7,8 +8,15 @@ pub mod DrawingLemmas
 pub mod SentLemmas
 pub mod TellingLemmas
 pub mod TryingLemmas
-pub mod GoingOnLemmas
+pub mod TypedMoveLemmas
+pub mod FittingLemmas
+pub mod FixingLemmas
+pub mod RecordingLemmas
 pub mod RespellingLemmas
 pub mod SendingLemmas
+pub mod KeptListLemmas
 pub mod LeavingLemmas
+pub mod BeginningLemmas
+pub mod TalkingLemmas
+pub mod TogglesLemmas
 pub mod ShownLemmas

@@ -5,7 +5,7 @@ use Rattle.fibs_position.specs.declared.numbers.Numbers.{Numbers}
 use Rattle.fibs_session.specs.Calls.Standing.{ClientValue, StandsAfter}
 use Rattle.fibs_session.specs.History.Machine.{Talk}
 use Rattle.fibs_session.specs.Typing.{way_now}
-use Rattle.fibs_advice.specs.Spelled.{Spells, first_word, is_talk, name_spelled, plain_spelled, takes_name, talk_spelled}
+use Rattle.fibs_advice.specs.Spelled.{Spells, first_word, is_talk, name_spelled, small_line, takes_name, talk_spelled}
 use Rattle.fibs_terminal.specs.Respelling.{IsPassedAs, IsSet, IsSpelling, Respells}
 
 -- what is appended to nothing for a line is its spelling
@@ -13,14 +13,14 @@ pub spelling_of : (client : ClientValue) (numbers : Numbers) (typed seen old tex
     → (is_talk (first_word seen) ≡ true → text ≡ old ++ talk_spelled seen)
     → (is_talk (first_word seen) ≡ false → takes_name (first_word seen) ≡ true → text ≡ old ++ name_spelled seen)
     → (is_talk (first_word seen) ≡ false → takes_name (first_word seen) ≡ false → (t : Talk) → StandsAfter client t
-    → Spells (way_now numbers t) (plain_spelled seen) old text)
+    → Spells t (way_now numbers t) (small_line seen) old text)
     → IsSpelling client numbers typed text
-spelling_of client numbers typed seen old text same empty talk name plain =
+spelling_of client numbers typed seen old text same empty talk name spells =
     subst (λ s. IsSpelling client numbers s text) same (record {
       talk = λ is. talk is ∙ ap (λ o. o ++ talk_spelled seen) empty;
       name = λ none is. name none is ∙ ap (λ o. o ++ name_spelled seen) empty;
       plain = λ none no t stands.
-          subst (λ o. Spells (way_now numbers t) (plain_spelled seen) o text) empty (plain none no t stands);
+          subst (λ o. Spells t (way_now numbers t) (small_line seen) o text) empty (spells none no t stands);
     })
 
 -- a line is set to its spelling

@@ -1,24 +1,29 @@
 -- Why what goes past the client is what it would not take, and a decision only on the server's word.
-use Rattle.std.proofs.Common.{◌≡◌, ◌⊎◌, ◌&&◌, Bool, not, true, false, ℕ, List, Option, Some, None, Result, Ok, Err, IfOk, is_none, codes, refl, sym, ap, ◌∙◌, subst, inl, inr}
-use Rattle.std.specs.Prelude.{unwrap_or}
+use Rattle.std.proofs.Common.{◌≡◌, ◌⊎◌, ◌++◌, ◌&&◌, Bool, not, true, false, ℕ, List, Option, Some, None, Result, Ok, Err, IfOk, is_none, append_assoc, codes, refl, sym, ap, ◌∙◌, subst, inl, inr}
+use Rattle.std.specs.Prelude.{option_map, unwrap_or}
 use Rattle.std.specs.Str.{str_eq_ignore_ascii_case}
 use Rattle.std.proofs.lemmas.Bool.{true≢false}
 use Rattle.fibs_fields.specs.Split.{before}
 use Rattle.fibs_game.specs.declared.refusal.Refusal.{Refusal}
-use Rattle.fibs_position.specs.DecisionValue.{DecisionValue, roll, double, accept, reject, move, resign}
+use Rattle.fibs_commands.specs.Commands.{command_of}
+use Rattle.fibs_position.specs.DecisionValue.{DecisionValue, IsDecision, decision_of, roll, double, accept, reject, move, resign}
+use Rattle.fibs_position.specs.Laws.{DecisionsAreValid}
+use Rattle.fibs_position.specs.declared.decision.Decision.{Decision}
+use Rattle.fibs_position.specs.declared.direction.Direction.{Direction}
 use Rattle.fibs_position.specs.declared.numbers.Numbers.{Numbers}
 use Rattle.fibs_session.specs.History.Machine.{Talk, answer_now, unconfirmed_now}
 use Rattle.fibs_session.specs.Calls.Standing.{ClientValue, StandsAfter}
-use Rattle.fibs_session.specs.Typing.{TypedValue, typed_decision, typed_plain, typed_order, typed_withdrawal, typed_none, decided, is_command, typed_by, typed_now, would_take}
+use Rattle.fibs_session.specs.Typing.{ShownIsRead, TypedValue, typed_decision, typed_plain, typed_order, typed_withdrawal, typed_none, decided, is_command, typed_by, typed_now, way_now, would_take}
 use Rattle.fibs_connect.specs.declared.wish.Wish.{Wish}
 use Rattle.fibs_connect.specs.declared.wish.Wish.TheVariants.{Say, Send}
+use Rattle.fibs_advice.specs.Moved.{spelled_in}
 use Rattle.fibs_advice.specs.Offers.{is_taken}
 use Rattle.fibs_advice.specs.Passing.{GoesPast, is_answer, is_behind, is_greeted, is_open_in, may_answer}
 use Rattle.fibs_advice.specs.Standings.{owes_answer}
 use Rattle.fibs_advice.specs.declared.standing.Standing.{Standing}
 use Rattle.fibs_terminal.specs.Asking.{GoesOnAs, GoesOut, IsTakenAs, IsTakenOrGoes, KnownGoesOn, SendsUntaken}
 use Rattle.fibs_terminal.specs.Talking.{GoesAsTyped}
-use Rattle.fibs_terminal.specs.Sending.{DecidesIf, SendsNoDecision, WentOnWord, from_word, says_send}
+use Rattle.fibs_terminal.specs.Sending.{DecidesIf, SaysWithout, SendsNoDecision, WentOnWord, from_word, says_send}
 
 -- an option is not both empty and full
 none_is_some : {X : Type 0} {x : X} → None ≡ Some x → ⊥
@@ -186,3 +191,34 @@ pub taken_goes : {E : Type 0} (client : ClientValue) (numbers : Numbers) (standi
     → Taken client numbers standing before after result
 taken_goes client numbers standing before after (Ok wish) taken = λ t stands known. inl (taken t stands known)
 taken_goes client numbers standing before after (Err why) taken = tt
+
+-- the command of a decision in the numbers that the user reads is that decision, if he types it
+same_typed : (numbers : Numbers) (t : Talk) (decision : Option Decision) (d : DecisionValue) → ShownIsRead
+    → DecisionsAreValid → option_map decision_of decision ≡ Some d
+    → typed_by numbers t (command_of (way_now numbers t) d) ≡ typed_decision d
+same_typed numbers t None d law valid is = absurd (none_is_some is)
+same_typed numbers t (Some x) d law valid is =
+    let same : decision_of x ≡ d = cc in
+    law numbers t d (subst IsDecision same (valid x))
+
+-- what is said of a line that is typed without `send`, in three pieces
+pub says_without : (numbers : Numbers) (t : Talk) (line before one two after : List ℕ) (decision : Option Decision)
+    (way : Direction) → ShownIsRead → DecisionsAreValid → way ≡ way_now numbers t
+    → option_map decision_of decision ≡ decided (typed_now t line)
+    → one ≡ before ++ codes "Type it without send: "
+    → two ≡ one ++ spelled_in way line (option_map decision_of decision) → after ≡ two ++ codes "\n"
+    → SaysWithout numbers t line before after
+says_without numbers t line before one two after decision way law valid goes read first second third = record {
+  said = third ∙ ap (λ (s : List ℕ). s ++ codes "\n") (second
+      ∙ ap (λ (s : List ℕ). s ++ spelled_in way line (option_map decision_of decision)) first
+      ∙ ap (λ (w : Direction). before ++ codes "Type it without send: "
+      ++ spelled_in w line (option_map decision_of decision)) goes
+      ∙ ap (λ (o : Option DecisionValue). before ++ codes "Type it without send: "
+      ++ spelled_in (way_now numbers t) line o) read)
+      ∙ append_assoc (before ++ codes "Type it without send: ")
+      (spelled_in (way_now numbers t) line (decided (typed_now t line))) (codes "\n")
+      ∙ append_assoc before (codes "Type it without send: ")
+      (spelled_in (way_now numbers t) line (decided (typed_now t line)) ++ codes "\n");
+  same = λ d is. ap (λ (o : Option DecisionValue). typed_by numbers t (spelled_in (way_now numbers t) line o)) is
+      ∙ same_typed numbers t decision d law valid (read ∙ is);
+}

@@ -1,5 +1,5 @@
 -- The move that `go` sends is the one that `try` showed.
-use Rattle.std.proofs.Common.{◌≡◌, ◌≤◌, ◌++◌, ℕ, List, Option, Some, Result, Ok, Err, IfOk, true, false, length, append_assoc, codes, refl, sym, ap, ◌∙◌, inl, arith}
+use Rattle.std.proofs.Common.{◌≡◌, ◌≤◌, ◌++◌, ℕ, List, Option, Some, Result, Ok, Err, IfOk, true, false, length, append_assoc, codes, refl, sym, ap, ◌∙◌, inl, arith, [], subst}
 use Rattle.std.proofs.lemmas.Bool.{false≢true}
 use Rattle.fibs_fields.specs.Board.{BoardFields}
 use Rattle.fibs_position.specs.DecisionValue.{IsDecision}
@@ -14,11 +14,12 @@ use Rattle.fibs_session.specs.Calls.Standing.{ClientValue, StandsAfter}
 use Rattle.fibs_session.specs.Typing.{typed_as, typed_by, typed_in, is_command, order_in, shown_direction, way_now}
 use Rattle.fibs_wording.specs.declared.environment.settings.Settings.{Settings}
 use Rattle.fibs_terminal.specs.Drawings.{Draws, is_plain}
+use Rattle.fibs_terminal.specs.GoingOn.{own_columns}
 use Rattle.fibs_connect.specs.declared.wish.Wish.{Wish}
 use Rattle.fibs_connect.specs.declared.wish.Wish.TheVariants.{Say}
 use Rattle.fibs_advice.specs.Leads.{LeadsTo}
 use Rattle.fibs_advice.specs.Trials.{changes_of, tried, tried_on}
-use Rattle.fibs_picture.specs.InWords.Rows.{rejoined}
+use Rattle.fibs_picture.specs.InWords.Rows.{Says}
 use Rattle.fibs_advice.specs.declared.trial.Trial.{Trial}
 use Rattle.fibs_terminal.specs.Trying.{DrawsTrial, IsCommandOf, IsTriedNow, SendsTried, ShowsTrial, TellsTrial, command_by, go_row, tried_command}
 
@@ -29,28 +30,39 @@ joined before mid after part row first second =
     second ∙ ap (λ m. m ++ row) first ∙ append_assoc before part row
 
 -- the board to which a move leads is drawn, and then how it is sent
-pub trial_drawn : (s : Settings) (x : Trial) (b : BoardFields) (before mid after : List ℕ)
+pub trial_drawn : (s : Settings) (x : Trial) (b : BoardFields) (held before mid row said after : List ℕ) → held ≡ []
     → LeadsTo (tried_on x) (tried x) b → (t : List ℕ) × Draws s false (is_plain s) b t × (mid ≡ before ++ t)
-    → after ≡ mid ++ go_row (command_by s.numbers x) → DrawsTrial s x before after
-trial_drawn s x b before mid after leads drawn row =
-    (b, leads, (drawn.0, drawn.1, joined before mid after drawn.0 (go_row (command_by s.numbers x)) drawn.2 row))
+    → row ≡ held ++ go_row (command_by s.numbers x) → said ≡ row → Says (own_columns s) said mid after
+    → DrawsTrial s x before after
+trial_drawn s x b held before mid row said after none leads drawn is same says = (
+  b,
+  leads,
+  (
+    drawn.0,
+    drawn.1,
+    subst (λ m. Says (own_columns s) (go_row (command_by s.numbers x)) m after) drawn.2
+        (subst (λ r. Says (own_columns s) r mid after)
+        (same ∙ is ∙ ap (λ h. h ++ go_row (command_by s.numbers x)) none) says),
+  ),
+)
 
 -- or what the move changes is told, and then how it is sent
-pub trial_told : (numbers : Numbers) (x : Trial) (before mid whole after : List ℕ)
-    → (b : BoardFields) × LeadsTo (tried_on x) (tried x) b × (mid ≡ before ++ changes_of numbers x b)
-    → whole ≡ mid ++ go_row (command_by numbers x) → rejoined after ≡ rejoined whole
-    → TellsTrial numbers x before after
-trial_told numbers x before mid whole after told row broken = (
+pub trial_told : (s : Settings) (x : Trial) (held mid whole said before after : List ℕ) → held ≡ []
+    → (b : BoardFields) × LeadsTo (tried_on x) (tried x) b × (mid ≡ held ++ changes_of s.numbers x b)
+    → whole ≡ mid ++ go_row (command_by s.numbers x) → said ≡ whole → Says (own_columns s) said before after
+    → TellsTrial s x before after
+trial_told s x held mid whole said before after none told row same says = (
   told.0,
   told.1,
-  broken
-      ∙ ap rejoined
-      (joined before mid whole (changes_of numbers x told.0) (go_row (command_by numbers x)) told.2 row),
+  subst (λ r. Says (own_columns s) r before after)
+      (same
+      ∙ joined [] mid whole (changes_of s.numbers x told.0) (go_row (command_by s.numbers x))
+      (told.2 ∙ ap (λ h. h ++ changes_of s.numbers x told.0) none) row) says,
 )
 
 -- it is shown the one way or the other
 pub trial_shown : (s : Settings) (x : Trial) (before after : List ℕ)
-    → (s.words ≡ false → DrawsTrial s x before after) → (s.words ≡ true → TellsTrial s.numbers x before after)
+    → (s.words ≡ false → DrawsTrial s x before after) → (s.words ≡ true → TellsTrial s x before after)
     → ShowsTrial s x before after
 trial_shown s x before after drawn told = record { drawn = drawn; told = told }
 

@@ -1,5 +1,5 @@
 -- When a connection that has ended is opened again (the project's own).
-use Rattle.std.specs.Prelude.{◌≡◌, ◌&&◌, ◌||◌, ◌+◌, ◌*◌, ◌^◌, ◌∷◌, ℕ, zero, suc, List, [], codes, Bool, None, IfSome, true, false, cond, is_some, not, min, max}
+use Rattle.std.specs.Prelude.{◌≡◌, ◌++◌, ◌&&◌, ◌||◌, ◌+◌, ◌*◌, ◌^◌, ◌∷◌, ℕ, zero, suc, List, [], codes, Bool, None, IfSome, true, false, cond, is_some, not, min, max}
 use Rattle.std.specs.Duration.{as_nanos, max_nanos}
 use Rattle.std.specs.Str.{bytes_eq}
 use Rattle.std.specs.declared.time.Duration.{Duration}
@@ -53,6 +53,18 @@ after_stay r = record r { is_on = false; tries = false; wait = 0; due = None }
 abbrev pub takes_leave : List ℕ → Bool
 takes_leave line = bytes_eq (before 32 line) (codes "bye") || (bytes_eq (before 32 line) (codes "quit")
     || is_leaving_word (before 32 line))
+
+-- what is said at the end of a connection for whose opening nobody waits: that it was lost, or, if the user has taken
+-- leave of the server himself, that the server has closed it; and whether `fix` opens it again
+abbrev pub end_words : Bool → Bool → List ℕ
+end_words false false = codes "lost: open connects again, quit ends\n"
+end_words false true = codes "lost: connecting again\n"
+end_words true false = codes "closed, as you asked: open connects again, quit ends\n"
+end_words true true = codes "closed, as you asked: connecting again\n"
+
+-- this holds of each connection that was left so: none of those is opened again by the waits
+abbrev pub SaysEnd : Reconnecting → List ℕ → List ℕ → Type 0
+SaysEnd r before after = r.leaves ≡ true → (fixes : Bool) × (after ≡ before ++ end_words true fixes)
 
 -- the wait before the next try is measured from now on, unless it was before
 abbrev pub IsDue : Reconnecting → Duration → Reconnecting → Type 0

@@ -8,6 +8,7 @@ use Rattle.fibs_advice.specs.Situations.{opened_with}
 use Rattle.fibs_advice.specs.Situations as Situations
 use Rattle.fibs_terminal.specs.Greetings.{new_greeting}
 use Rattle.fibs_terminal.specs.Tables.{IsNewTable, kept_table}
+use Rattle.fibs_terminal.specs.Toggles.{new_toggles}
 use Rattle.fibs_terminal.specs.declared.company.Company.{Company}
 use Rattle.fibs_terminal.specs.declared.drawing.watching.Watching.{Watching}
 use Rattle.fibs_terminal.specs.declared.drawing.watching.Wanted.{Wanted}
@@ -23,6 +24,7 @@ use Rattle.fibs_terminal.specs.declared.resting.Advising.{Advising}
 pub record IsQuiet (a : Advising) : Type 0 where
   pub again : a.says_again ≡ false
   pub inquired : a.inquired ≡ false
+  pub told : a.is_told ≡ false
   pub last : a.said_last.items ≡ []
 
 -- nobody is listed, nobody has talked with the user, and no list of saved matches is coming
@@ -60,6 +62,8 @@ pub record IsFresh (c : Connection) : Type 0 where
   pub company : IsEmptyCompany c.company
   pub list : IsEmptyList c.list
   pub greeting : c.greeting ≡ new_greeting
+  pub toggles : c.toggles ≡ new_toggles
+  pub warned : c.is_warned ≡ false
   pub said : c.said.items ≡ []
   pub rule : c.rule.items ≡ []
   pub passing : c.passing ≡ Asks

@@ -1,5 +1,8 @@
 -- What a match has changed: when the user's rating after it is known (the project's own).
-use Rattle.std.specs.Prelude.{◌==◌, ◌&&◌, Bool, Option, Some, None, false, cond}
+use Rattle.std.specs.Prelude.{◌==◌, ◌&&◌, Bool, Option, Some, None, false, cond, pos, unsigned_abs}
+use Rattle.std.specs.Ordering.{int_eq}
+use Rattle.fibs_fields.specs.Board.{BoardFields, field_of}
+use Rattle.fibs_wording.specs.declared.matches.Score.{Score}
 use Rattle.fibs_terminal.specs.declared.results.Rated.{Rated}
 use Rattle.fibs_terminal.specs.declared.results.Ended.{Ended}
 
@@ -22,3 +25,11 @@ rated_by (Some ended) now = cond (says_nothing_new ended.before now) None (Some 
 abbrev pub unrated_after : Option Ended → Rated → Option Ended
 unrated_after None now = None
 unrated_after (Some ended) now = cond (says_nothing_new ended.before now) (Some ended) None
+
+-- the score on a board of a match of some length: 9999 is no length
+abbrev pub score_of : BoardFields → Option Score
+score_of b = cond (int_eq (field_of b 4) (pos 9999)) None (Some (record {
+  length = unsigned_abs (field_of b 4);
+  own = unsigned_abs (field_of b 5);
+  other = unsigned_abs (field_of b 6);
+}))

@@ -4,7 +4,7 @@ use Rattle.fibs_position.specs.declared.numbers.Numbers.{Numbers}
 use Rattle.fibs_session.specs.Calls.Standing.{ClientValue, StandsAfter}
 use Rattle.fibs_session.specs.History.Machine.{Talk}
 use Rattle.fibs_session.specs.Typing.{way_now}
-use Rattle.fibs_advice.specs.Spelled.{Spells, first_word, is_talk, name_spelled, plain_spelled, small_first, takes_name, talk_spelled}
+use Rattle.fibs_advice.specs.Spelled.{Spells, first_word, is_talk, name_spelled, small_line, small_first, takes_name, talk_spelled}
 use Rattle.fibs_wording.specs.ServerWords.{is_passed}
 
 -- a line is this one, for which it has room
@@ -19,12 +19,12 @@ IsPassedAs spelled old new = (new ≡ old)
     ⊎ ((is_passed spelled ≡ true) × IsSet spelled new))
 
 -- the spelling of a line: talk stays as it was typed but for its first word, a name but for the spaces after it; any
--- other line is in small letters, or the command of the move that it says, in the numbers that the user reads
+-- other line is in small letters, or the command of the move that it shows, in the numbers that the user reads
 pub record IsSpelling (client : ClientValue) (numbers : Numbers) (typed spelled : List ℕ) : Type 0 where
   pub talk : is_talk (first_word typed) ≡ true → spelled ≡ talk_spelled typed
   pub name : is_talk (first_word typed) ≡ false → takes_name (first_word typed) ≡ true → spelled ≡ name_spelled typed
   pub plain : is_talk (first_word typed) ≡ false → takes_name (first_word typed) ≡ false → (t : Talk)
-      → StandsAfter client t → Spells (way_now numbers t) (plain_spelled typed) [] spelled
+      → StandsAfter client t → Spells t (way_now numbers t) (small_line typed) [] spelled
 
 -- a line is its spelling now
 pub record IsRespelled (client : ClientValue) (numbers : Numbers) (typed line : List ℕ) : Type 0 where

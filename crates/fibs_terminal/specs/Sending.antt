@@ -1,15 +1,17 @@
 -- Which typed lines go to the server past the client (the project's own).
-use Rattle.std.specs.Prelude.{◌≡◌, ◌⊎◌, Bool, false, ℕ, List, drop, codes, Option, Some, None, Result, IfOk}
+use Rattle.std.specs.Prelude.{◌≡◌, ◌⊎◌, ◌++◌, Bool, false, ℕ, List, drop, codes, Option, Some, None, Result, IfOk}
 use Rattle.std.specs.List.{prefix_len}
 use Rattle.std.specs.Char.{is_ascii_whitespace}
 use Rattle.std.specs.Str.{str_eq_ignore_ascii_case}
 use Rattle.fibs_fields.specs.Split.{before}
 use Rattle.fibs_position.specs.DecisionValue.{DecisionValue}
+use Rattle.fibs_position.specs.declared.numbers.Numbers.{Numbers}
 use Rattle.fibs_session.specs.History.Machine.{Talk}
 use Rattle.fibs_session.specs.Calls.Standing.{ClientValue, StandsAfter}
-use Rattle.fibs_session.specs.Typing.{decided, typed_now}
+use Rattle.fibs_session.specs.Typing.{decided, typed_by, typed_decision, typed_now, way_now}
 use Rattle.fibs_connect.specs.declared.wish.Wish.{Wish}
 use Rattle.fibs_connect.specs.declared.wish.Wish.TheVariants.{Say, Send, Answered}
+use Rattle.fibs_advice.specs.Moved.{spelled_in}
 use Rattle.fibs_advice.specs.Passing.{GoesPast, IsForbidden}
 use Rattle.fibs_advice.specs.declared.standing.Standing.{Standing}
 
@@ -48,3 +50,11 @@ WentOnWord client standing line result = IfOk result (λ wish. wish ≡ Send →
 -- the law of lines that go past the client: so does each, in whatever spelling, that was typed without the word `send`
 abbrev pub SendsOnWord : {E : Type 0} → ClientValue → Standing → List ℕ → List ℕ → Result Wish E → Type 0
 SendsOnWord client standing typed line result = says_send typed ≡ false → WentOnWord client standing line result
+
+-- it is said how a line is typed that the client would take: a decision in the numbers that the user reads, so that he
+-- types the same decision
+pub record SaysWithout (numbers : Numbers) (t : Talk) (line before after : List ℕ) : Type 0 where
+  pub said : after ≡ before ++ (codes "Type it without send: "
+      ++ (spelled_in (way_now numbers t) line (decided (typed_now t line)) ++ codes "\n"))
+  pub same : (d : DecisionValue) → decided (typed_now t line) ≡ Some d
+      → typed_by numbers t (spelled_in (way_now numbers t) line (decided (typed_now t line))) ≡ typed_decision d

@@ -15,7 +15,7 @@ IsSentNow t x = unconfirmed_now t ≡ Some (tried_on x, tried x)
 
 -- the row that says so
 unfoldable pub not_confirmed : List ℕ
-not_confirmed = codes "Sent, and not confirmed by the server yet.\n"
+not_confirmed = codes "Sent, not confirmed by the server yet.\n"
 
 -- what is written: the picture of the board to which the move leads, and that row; in words the row alone
 pub record AddsSent (s : Settings) (x : Trial) (before : List ℕ) (after : List ℕ) : Type 0 where

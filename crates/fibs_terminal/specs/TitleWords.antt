@@ -5,6 +5,11 @@ use Rattle.std.specs.Prelude.{◌≡◌, ◌++◌, ◌⊎◌, ℕ, List, [], ◌
 abbrev pub keep_title : List ℕ
 keep_title = 27 ∷ codes "[22;0t"
 
+-- puts the title back that the window had, if another one was put there
+abbrev pub put_back : List ℕ → List ℕ
+put_back [] = []
+put_back (byte ∷ shown) = 27 ∷ codes "[23;0t"
+
 -- puts words there: nothing else is between the two ends
 abbrev pub set_title : List ℕ → List ℕ
 set_title words = (27 ∷ codes "]2;") ++ (words ++ (27 ∷ 92 ∷ []))

@@ -12,8 +12,9 @@ use Rattle.fibs_session.specs.Typing.{is_command, typed_by, typed_decision, type
 use Rattle.fibs_fields.specs.Split.{before}
 use Rattle.fibs_connect.specs.Wishes.{typed_limit}
 use Rattle.fibs_wording.specs.declared.environment.settings.Settings.{Settings}
-use Rattle.fibs_picture.specs.InWords.Rows.{rejoined}
+use Rattle.fibs_picture.specs.InWords.Rows.{Says}
 use Rattle.fibs_terminal.specs.Drawings.{Draws, is_plain}
+use Rattle.fibs_terminal.specs.GoingOn.{own_columns}
 use Rattle.fibs_connect.specs.declared.wish.Wish.{Wish}
 use Rattle.fibs_connect.specs.declared.wish.Wish.TheVariants.{Say, Answered}
 use Rattle.fibs_advice.specs.Leads.{LeadsTo}
@@ -32,21 +33,21 @@ command_by numbers x = command_of (counted numbers (direction_of (tried_on x))) 
 unfoldable pub go_row : List ℕ → List ℕ
 go_row command = codes "Not sent yet: go sends " ++ (command ++ codes "\n")
 
--- what is written: the picture of the board to which the move leads, and how it is sent
+-- what is written: the picture of the board to which the move leads, and how it is sent, in rows that have room
 abbrev pub DrawsTrial : Settings → Trial → List ℕ → List ℕ → Type 0
 DrawsTrial s x before after = (b : BoardFields) × LeadsTo (tried_on x) (tried x) b × ((picture : List ℕ)
-    × Draws s false (is_plain s) b picture × (after ≡ before ++ (picture ++ go_row (command_by s.numbers x))))
+    × Draws s false (is_plain s) b picture
+    × Says (own_columns s) (go_row (command_by s.numbers x)) (before ++ picture) after)
 
--- or in words: what the move changes on the way to that board, and how it is sent, if what goes on of a row is joined
--- to it again
-abbrev pub TellsTrial : Numbers → Trial → List ℕ → List ℕ → Type 0
-TellsTrial numbers x before after = (b : BoardFields) × LeadsTo (tried_on x) (tried x) b
-    × (rejoined after ≡ rejoined (before ++ (changes_of numbers x b ++ go_row (command_by numbers x))))
+-- or in words: what the move changes on the way to that board, and how it is sent
+abbrev pub TellsTrial : Settings → Trial → List ℕ → List ℕ → Type 0
+TellsTrial s x before after = (b : BoardFields) × LeadsTo (tried_on x) (tried x) b
+    × Says (own_columns s) (changes_of s.numbers x b ++ go_row (command_by s.numbers x)) before after
 
 -- the board is drawn, or what changes is told, if the user has asked for words
 pub record ShowsTrial (s : Settings) (x : Trial) (before : List ℕ) (after : List ℕ) : Type 0 where
   pub drawn : s.words ≡ false → DrawsTrial s x before after
-  pub told : s.words ≡ true → TellsTrial s.numbers x before after
+  pub told : s.words ≡ true → TellsTrial s x before after
 
 -- the move was tried on the board that is shown, and the client would take it
 pub record MayBeSent (t : Talk) (x : Trial) : Type 0 where

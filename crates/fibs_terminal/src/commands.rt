@@ -1,25 +1,32 @@
 //! What a line that is typed at a terminal asks for.
-ghost use Rattle.std.specs.Prelude.{◌≡◌, ◌≤◌, length, codes, true, false, is_some, Some, None, IfOk, OnOk};
+ghost use Rattle.std.specs.Prelude.{◌≡◌, ◌≤◌, length, codes, true, false, is_some, Some, None, IfOk, IfSome, OnOk};
 ghost use Rattle.fibs_connect.specs.Wishes.{wish_value};
 ghost use Rattle.fibs_session.specs.Calls.Standing.{StandsAfter};
 ghost use Rattle.fibs_session.specs.History.Machine.{Talk};
 ghost use Rattle.fibs_session.specs.Typing.{IsMeant, decided, is_command, typed_by, typed_decision, typed_now};
-ghost use Rattle.fibs_position.specs.DecisionValue.{move};
+ghost use Rattle.fibs_position.specs.DecisionValue.{decision_of, move};
 ghost use Rattle.fibs_rules.specs.PlayValue.{hops_of};
 ghost use Rattle.fibs_terminal.specs.Asking.{AsksInBounds, IsTakenAs, IsTakenOrGoes, KnownGoesOn, SendsUntaken, ShownGoesOn, TakesPlay};
 ghost use Rattle.fibs_terminal.specs.Leaving.{NeverQuits, Quits, QuitsBy};
 ghost use Rattle.fibs_terminal.specs.Respelling.{IsPassedAs, Respells};
 ghost use Rattle.fibs_terminal.specs.Sending.{SendsNoDecision, SendsOnWord, WentOnWord, says_send};
 ghost use Rattle.fibs_fields.specs.Split.{before};
+ghost use Rattle.fibs_terminal.specs.Configured.{numbers_after};
 ghost use Rattle.fibs_terminal.specs.Trying.{AnswersTry, GoesOn, KeepsUnanswered, ShowsTry, Tries, TriesOrKeeps};
+ghost use Rattle.fibs_terminal.specs.TypedMoves.{AfterTry, IsTriedAs, KeepsTyped, NotesRule, TriesTyped, after_word};
 
-use crate::drawing::{Boards, Watching};
+mod shown;
+mod unknown;
+
+use crate::account::is_free;
+use crate::commands::shown::{say_board, say_fact};
+use crate::commands::unknown::say_unknown;
+use crate::going_on::{fit_from, is_narrow, say_rows};
 use crate::looking::{TRY_WHAT, trial_of};
 use crate::screen::Screen;
 use crate::sending::{after_send, decision_typed, send};
 use crate::story::Story;
 use crate::talk::goes_as_typed;
-use crate::telling::UNKNOWN;
 use bstr::ByteSlice;
 use fibs_advice::passing::Passing;
 use fibs_advice::rules::append_rule;
@@ -28,7 +35,7 @@ use fibs_connect::typed_line::{TYPED_LIMIT, TypedLine};
 use fibs_connect::wish::Wish;
 use fibs_fields::split::split;
 use fibs_fields::trailing_spaces::without_spaces;
-use fibs_picture::in_words::{Fact, Told, append_row};
+use fibs_picture::in_words::Fact;
 use fibs_position::laws::decisions_are_valid;
 use fibs_position::{Decision, Numbers, Play};
 use fibs_session::laws::shown_is_read;
@@ -36,13 +43,10 @@ use fibs_session::typed::meant::{is_command_by, meant_command, read_typed_by};
 use fibs_session::typed::taking::would_take;
 use fibs_session::typed::typing::Typed;
 use fibs_session::{Client, Directory, Refusal, decision_text};
-use fibs_wording::environment::pieces::append_all;
-use fibs_wording::environment::shown::append_shown;
 use fibs_wording::environment::{Page, read_numbers};
 use fibs_wording::help;
-use fibs_wording::meant::meant_word;
-use fibs_wording::reasons::refusal_words;
-use fibs_wording::server_words::{is_leaving_word, is_passed, is_server_word};
+use fibs_wording::server_words::is_passed;
+pub(crate) use shown::say_no_game;
 use std::alloc::{AllocError, Global};
 
 /// A word of the terminal, which the client does not know.
@@ -98,8 +102,38 @@ const SHORT_WORDS: &[u8] =
 
 const LONG_WORDS: &[u8] = b"In words, each board is told whole now.\n";
 
-/// How many bytes of what follows a word are shown in a row: with the longest word the row fits.
-const MOST_SHOWN: usize = 19;
+/// The words of the terminal that ask for nothing of the conversation, each with what it asks for.
+const HERE: [(&[u8], Here); 19] = [
+    (b"help", Here::Help),
+    (b"plays", Here::Plays),
+    (b"words", Here::Words),
+    (b"players", Here::Players),
+    (b"gag", Here::Gag),
+    (b"ungag", Here::Ungag),
+    (b"quiet", Here::Quiet),
+    (b"loud", Here::Loud),
+    (b"arrivals", Here::Arrivals),
+    (b"talk", Here::Talk),
+    (b"moves", Here::Moves),
+    (b"matches", Here::Matches),
+    (b"reconnect", Here::Reconnect),
+    (b"stay", Here::Stay),
+    (b"fix", Here::Fix),
+    (b"columns", Here::Columns),
+    (b"rows", Here::Rows),
+    (b"board", Here::Board),
+    (b"numbers", Here::Numbers),
+];
+
+/// What one of these words asks for.
+fn here_word(word: &[u8]) -> Option<Here> {
+    for (name, here) in &HERE {
+        if *name == word {
+            return Some(*here);
+        }
+    }
+    None
+}
 
 /// The word of the terminal that a word is, if it is one.
 fn own_word(word: &[u8]) -> Option<Own>
@@ -107,29 +141,13 @@ fn own_word(word: &[u8]) -> Option<Own>
     ensures tries { word.now ≡ codes "try" → result ≡ Some Own.Try }
 {
     match word {
-        b"help" => Some(Own::Here(Here::Help)),
-        b"plays" => Some(Own::Here(Here::Plays)),
-        b"words" => Some(Own::Here(Here::Words)),
-        b"players" => Some(Own::Here(Here::Players)),
-        b"gag" => Some(Own::Here(Here::Gag)),
-        b"ungag" => Some(Own::Here(Here::Ungag)),
-        b"quiet" => Some(Own::Here(Here::Quiet)),
-        b"loud" => Some(Own::Here(Here::Loud)),
-        b"arrivals" => Some(Own::Here(Here::Arrivals)),
-        b"talk" => Some(Own::Here(Here::Talk)),
         b"re" => Some(Own::Re),
         b"try" => Some(Own::Try),
         b"go" => Some(Own::Go),
-        b"moves" => Some(Own::Here(Here::Moves)),
-        b"matches" => Some(Own::Here(Here::Matches)),
-        b"reconnect" => Some(Own::Here(Here::Reconnect)),
-        b"stay" => Some(Own::Here(Here::Stay)),
-        b"fix" => Some(Own::Here(Here::Fix)),
-        b"columns" => Some(Own::Here(Here::Columns)),
-        b"rows" => Some(Own::Here(Here::Rows)),
-        b"board" => Some(Own::Here(Here::Board)),
-        b"numbers" => Some(Own::Here(Here::Numbers)),
-        _ => None,
+        _ => match here_word(word) {
+            Some(here) => Some(Own::Here(here)),
+            None => None,
+        },
     }
 }
 
@@ -145,7 +163,9 @@ fn is_own(line: &[u8]) -> bool
 }
 
 /// What follows a word.
-fn after_word(line: &[u8]) -> &[u8] {
+fn after_word(line: &[u8]) -> &[u8]
+    ensures { result.now ≡ after_word line.now }
+{
     match split(line, b' ').1 {
         Some(rest) => rest,
         None => b"",
@@ -230,7 +250,10 @@ fn note_rule(
     numbers: Numbers,
     line: &[u8],
     rule: &mut Vec<u8>,
-) -> Result<(), AllocError> {
+) -> Result<(), AllocError>
+    ensures { OnOk result ((t : Talk) → StandsAfter client.now t →
+        NotesRule t numbers line.now rule.old.items rule.new.items) }
+{
     let Typed::Decision(decision) = read_typed_by(client, numbers, line) else {
         return Ok(());
     };
@@ -253,58 +276,22 @@ fn read_move(
     numbers: Numbers,
     rest: &[u8],
     rule: &mut Vec<u8>,
-) -> Result<Option<Decision>, AllocError> {
+) -> Result<Option<Decision>, AllocError>
+    ensures { IfOk result (λ read. IfSome read (λ decision. (t : Talk) → StandsAfter client.now t →
+        IsTriedAs t numbers rest.now (decision_of decision))) }
+{
+    // Laws, which cost nothing when they run.
+    shown_is_read();
+    decisions_are_valid();
     let mut typed = Vec::new(alloc);
-    append_all(&[b"move ", rest], &mut typed)?;
+    typed.extend_from_slice(b"move ")?;
+    typed.extend_from_slice(rest)?;
     let mut spelled = Vec::new(alloc);
     append_spelled(alloc, client, numbers, typed.as_slice(), &mut spelled)?;
     note_rule(client, numbers, spelled.as_slice(), rule)?;
     match read_typed_by(client, numbers, spelled.as_slice()) {
         Typed::Decision(decision) => Ok(Some(decision)),
         _ => Ok(None),
-    }
-}
-
-/// Says how a command of the server is sent that the client does not have. If much follows its word, that is left out.
-fn say_foreign(word: &[u8], rest: Option<&[u8]>, page: &mut Page<'_>) -> Result<(), AllocError> {
-    page.say_all(&[b"not a word of this client: send ", word])?;
-    if let Some(rest) = rest {
-        page.say(b" ")?;
-        if rest.len() <= MOST_SHOWN {
-            append_shown(rest, page.settings.utf8, &mut page.text)?;
-        } else {
-            page.say(b"..")?;
-        }
-    }
-    page.say(b" sends it as it is\n")
-}
-
-/// Says which word may have been meant, if one is near.
-fn say_meant(word: &[u8], page: &mut Page<'_>) -> Result<(), AllocError> {
-    match meant_word(word) {
-        None => page.say(UNKNOWN),
-        Some(meant) => {
-            append_shown(word, page.settings.utf8, &mut page.text)?;
-            page.say_all(&[b": ", meant, b"?\n"])
-        }
-    }
-}
-
-/// Says what to type in place of a line that is no command: nothing is sent by a guess.
-fn say_unknown(line: &[u8], page: &mut Page<'_>) -> Result<(), AllocError> {
-    let (word, rest) = split(line, b' ');
-    let alloc = page.alloc;
-    let small = word.to_ascii_lowercase(alloc)?;
-    let word = small.as_slice();
-    if is_leaving_word(word) {
-        return page.say(b"quit ends the program, bye leaves the server\n");
-    }
-    if is_server_word(word) {
-        return say_foreign(word, rest, page);
-    }
-    match help::word_help(word) {
-        Some(words) => page.say_rows(words),
-        None => say_meant(word, page),
     }
 }
 
@@ -347,7 +334,11 @@ fn say_moves(story: &Story, rest: &[u8], page: &mut Page<'_>) -> Result<(), Allo
 }
 
 /// Places have these numbers now.
-fn set_numbers(rest: &[u8], page: &mut Page<'_>) -> Result<(), AllocError> {
+fn set_numbers(rest: &[u8], page: &mut Page<'_>) -> Result<(), AllocError>
+    ensures { page.new.settings ≡ record page.old.settings {
+      numbers = numbers_after rest.now page.old.settings.numbers;
+    } }
+{
     let Some(numbers) = read_numbers(rest) else {
         return page.say(WHICH_NUMBERS);
     };
@@ -358,53 +349,12 @@ fn set_numbers(rest: &[u8], page: &mut Page<'_>) -> Result<(), AllocError> {
     })
 }
 
-/// Says that there is no board of the user's own game for which a word asks.
-pub(crate) fn say_no_game(client: &Client, page: &mut Page<'_>) -> Result<(), AllocError> {
-    let why = match client.refusal(&Decision::Roll) {
-        Some(Refusal::Offline) => Refusal::Offline,
-        _ => Refusal::NoBoard,
-    };
-    page.say_all(&[refusal_words(why), b"\n"])
-}
-
-/// Tells in words the board that is shown: of the game that is watched, else of the user's own.
-fn say_board(
-    client: &Client,
-    watching: &mut Watching,
-    boards: &mut Boards,
-    page: &mut Page<'_>,
-) -> Result<(), AllocError> {
-    match (watching.board(), client.game()) {
-        (Some(watched), _) => {
-            let watched = *watched;
-            watching.tell(&watched, true, page)
-        }
-        (None, Some(game)) => boards.tell(game, true, page),
-        (None, None) => say_no_game(client, page),
-    }
-}
-
-/// Tells in words one fact of that board.
-fn say_fact(
-    client: &Client,
-    watching: &Watching,
-    fact: Fact,
-    page: &mut Page<'_>,
-) -> Result<(), AllocError> {
-    let numbers = page.settings.numbers;
-    let told = match (watching.board(), client.game()) {
-        (Some(watched), _) => Told::Watched(*watched, numbers),
-        (None, Some(game)) => Told::Game(*game, numbers),
-        (None, None) => return say_no_game(client, page),
-    };
-    let alloc = page.alloc;
-    append_row(alloc, &told, fact, page.settings.columns, &mut page.text)
-}
-
 /// Of boards that come only what is new is told in words from now on, or they are told whole.
-fn set_short(is_short: bool, page: &mut Page<'_>) -> Result<(), AllocError> {
+fn set_short(is_short: bool, page: &mut Page<'_>) -> Result<(), AllocError>
+    ensures { page.new.settings ≡ record page.old.settings { is_short = is_short } }
+{
     page.settings.is_short = is_short;
-    page.say(if is_short { SHORT_WORDS } else { LONG_WORDS })
+    say_rows(if is_short { SHORT_WORDS } else { LONG_WORDS }, page)
 }
 
 impl<'a> Screen<'a> {
@@ -428,6 +378,8 @@ impl<'a> Screen<'a> {
         ensures went { GoesOn client.now self.old.memory.here.looking.trial line.old.items line.new.items result }
         ensures shown { ShowsTry client.now self.old.page.settings line.old.items self.new.memory.here.looking.trial
             self.old.page.text.items self.new.page.text.items result }
+        ensures typed { KeepsTyped client.now self.old.page.settings.numbers line.old.items
+            self.new.memory.here.looking.trial result }
         ensures still { KeepsUnanswered self.old.memory.here.looking.trial self.new.memory.here.looking.trial result }
         ensures quit { Quits client.now line.old.items result }
         ensures quits { QuitsBy line.new.items result }
@@ -526,6 +478,8 @@ impl<'a> Screen<'a> {
         ensures went { GoesOn client.now self.old.memory.here.looking.trial line.old.items line.new.items result }
         ensures shown { before 32 line.old.items ≡ codes "try" → AnswersTry client.now self.old.page.settings
             self.new.memory.here.looking.trial self.old.page.text.items self.new.page.text.items result }
+        ensures typed { before 32 line.old.items ≡ codes "try" → AfterTry client.now self.old.page.settings.numbers
+            line.old.items self.new.memory.here.looking.trial result }
         ensures still { KeepsUnanswered self.old.memory.here.looking.trial self.new.memory.here.looking.trial result }
         ensures quit { Quits client.now line.old.items result }
         ensures quits { QuitsBy line.new.items result }
@@ -569,22 +523,34 @@ impl<'a> Screen<'a> {
         ensures went { GoesOn client.now self.old.memory.here.looking.trial typed.now line.new.items result }
         ensures shown { before 32 typed.now ≡ codes "try" → AnswersTry client.now self.old.page.settings
             self.new.memory.here.looking.trial self.old.page.text.items self.new.page.text.items result }
+        ensures typed { before 32 typed.now ≡ codes "try" → AfterTry client.now self.old.page.settings.numbers
+            typed.now self.new.memory.here.looking.trial result }
         ensures still { KeepsUnanswered self.old.memory.here.looking.trial self.new.memory.here.looking.trial result }
         ensures quits { NeverQuits result }
     {
         let rest = after_word(typed);
+        let start = self.page.text.len();
         match own_word(split(typed, b' ').0) {
-            None => self.wish_other(client, original, line),
-            Some(Own::Re) => self
-                .memory
-                .program
-                .talk
-                .answer(client, rest, line, &mut self.page),
-            Some(Own::Go) => self
-                .memory
-                .here
-                .looking
-                .send_tried(client, line, &mut self.page),
+            None => {
+                let wish = self.wish_other(client, original, line)?;
+                fit_from(start, &mut self.page)?;
+                Ok(wish)
+            }
+            Some(Own::Re) => {
+                let talk = &self.memory.program.talk;
+                let wish = talk.answer(client, rest, line, &mut self.page)?;
+                fit_from(start, &mut self.page)?;
+                Ok(wish)
+            }
+            Some(Own::Go) => {
+                let here = &mut self.memory.here;
+                let is_free = is_free(here.situation.standing);
+                here.advising.inquired = is_free || here.advising.inquired;
+                let looking = &here.looking;
+                let wish = looking.send_tried(client, is_free, line, &mut self.page)?;
+                fit_from(start, &mut self.page)?;
+                Ok(wish)
+            }
             Some(Own::Try) => {
                 self.try_move(client, rest)?;
                 Ok(Wish::Answered)
@@ -636,24 +602,46 @@ impl<'a> Screen<'a> {
         let small = rest.to_ascii_lowercase(alloc)?;
         let small = small.as_slice();
         match here {
+            // their rows have room, or are those of people
+            Here::Words => self.answer_words(client, small),
+            Here::Columns => self.set_columns(small),
+            Here::Rows => self.set_rows(small),
+            Here::Board => self.place_board(small),
+            Here::Talk => self.memory.program.talk.say_rows(&mut self.page),
+            _ => {
+                let start = self.page.text.len();
+                self.answer_in_rows(client, directory, here, rest, small)?;
+                fit_from(start, &mut self.page)
+            }
+        }
+    }
+
+    /// Answers any other word.
+    fn answer_in_rows(
+        &mut self,
+        client: &Client,
+        directory: &Directory,
+        here: Here,
+        rest: &[u8],
+        small: &[u8],
+    ) -> Result<(), AllocError>
+        ensures { self.new.memory.here.looking.trial ≡ self.old.memory.here.looking.trial }
+    {
+        match here {
+            Here::Words | Here::Columns | Here::Rows | Here::Board | Here::Talk => Ok(()),
             Here::Help => self.say_help(small),
             Here::Plays => self
                 .memory
                 .here
                 .looking
                 .say_plays(client, small, &mut self.page),
-            Here::Words => self.answer_words(client, small),
             Here::Players => self.answer_players(client, directory, rest),
             Here::Moves => say_moves(&self.memory.here.table.story, small, &mut self.page),
             Here::Matches => self.say_matches(rest),
             Here::Reconnect => self.ask_reconnect(client),
             Here::Stay => self.stay(),
             Here::Fix => self.fix(client),
-            Here::Columns => self.set_columns(small),
-            Here::Rows => self.set_rows(small),
-            Here::Board => self.place_board(small),
             Here::Numbers => set_numbers(small, &mut self.page),
-            Here::Talk => self.memory.program.talk.say_rows(&mut self.page),
             Here::Gag => self.memory.program.people.gag(rest, &mut self.page),
             Here::Ungag => self.memory.program.people.ungag(rest, &mut self.page),
             Here::Quiet => self.memory.program.people.set_quiet(true, &mut self.page),
@@ -674,28 +662,30 @@ impl<'a> Screen<'a> {
             b"cube" => say_fact(client, &here.watching, Fact::Cube, page),
             b"short" => set_short(true, page),
             b"long" => set_short(false, page),
-            _ => page.say(WHICH_WORDS),
+            _ => say_rows(WHICH_WORDS, page),
         }
     }
 
     /// Shows the board to which a move would lead, and sends nothing. A move that the client would not take now is
     /// refused as if it were typed.
     fn try_move(&mut self, client: &Client, rest: &[u8]) -> Result<(), AllocError>
-        ensures { OnOk result (Tries client.now self.old.page.settings self.new.memory.here.looking.trial
+        ensures tried { OnOk result (Tries client.now self.old.page.settings self.new.memory.here.looking.trial
             self.old.page.text.items self.new.page.text.items) }
+        ensures typed { OnOk result (TriesTyped client.now self.old.page.settings.numbers rest.now
+            self.new.memory.here.looking.trial) }
     {
         let alloc = self.page.alloc;
         let numbers = self.page.settings.numbers;
         self.memory.here.looking.forget_trial();
         let Some(decision) = read_move(alloc, client, numbers, rest, &mut self.memory.here.rule)?
         else {
-            return self.page.say(TRY_WHAT);
+            return say_rows(TRY_WHAT, &mut self.page);
         };
         if let Some(why) = client.refusal(&decision) {
             return self.say_refused(why);
         }
         match trial_of(client, &decision) {
-            None => self.page.say(TRY_WHAT),
+            None => say_rows(TRY_WHAT, &mut self.page),
             Some(trial) => self.memory.here.looking.show_trial(trial, &mut self.page),
         }
     }
@@ -706,12 +696,12 @@ impl<'a> Screen<'a> {
     {
         if word.is_empty() {
             self.memory.here.advising.inquired = true;
-            let is_told = self.page.settings.words;
-            self.page.say_rows(help::screen(is_told))?;
+            let is_told = self.page.settings.words || is_narrow(&self.page);
+            self.page.say(help::screen(is_told))?;
             return self.memory.here.watching.say_hint(&mut self.page);
         }
         match help::word_help(split(word, b' ').0) {
-            Some(words) => self.page.say_rows(words),
+            Some(words) => self.page.say(words),
             None => self.page.say(b"No such word: help lists the words.\n"),
         }
     }

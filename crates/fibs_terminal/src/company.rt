@@ -1,6 +1,12 @@
 //! Who is listed on a connection, and who invites the user.
+ghost use Rattle.std.specs.Prelude.{◌≡◌, ◌⊎◌, ◌++◌, ◌∷◌, [], IfOk, IsTrue, List, OnOk, Some, false, true};
+ghost use Rattle.fibs_messages.specs.Directory.{IsDirectory};
+ghost use Rattle.fibs_messages.specs.Message.{MessageValue, message_of};
+ghost use Rattle.fibs_advice.specs.declared.standing.Standing.TheVariants as S;
 ghost use Rattle.fibs_terminal.specs.Boxes.{IsEmptyCompany};
+ghost use Rattle.fibs_terminal.specs.KeptLists.{IsAmong, IsNotAmong, KeepsName};
 
+use crate::going_on::fit_from;
 use fibs_advice::situation::Inviter;
 use fibs_advice::standing::Standing;
 use fibs_fields::trailing_spaces::without_spaces;
@@ -38,12 +44,17 @@ impl Company {
     }
 
     /// The players who are listed.
-    pub fn listed(&self) -> &Directory {
+    pub fn listed(&self) -> &Directory
+        ensures { result.now ≡ self.now.listed }
+    {
         &self.listed
     }
 
     /// Whether a player has talked with the user.
-    pub fn has_spoken(&self, name: &[u8]) -> bool {
+    pub fn has_spoken(&self, name: &[u8]) -> bool
+        ensures spoken { IsTrue result → IsAmong name.now self.now.spoken.items }
+        ensures silent { result ≡ false → IsNotAmong name.now self.now.spoken.items }
+    {
         for spoken in &self.spoken {
             if spoken.as_slice() == name {
                 return true;
@@ -53,7 +64,11 @@ impl Company {
     }
 
     /// A player has talked with the user.
-    pub fn note_speaker(&mut self, alloc: Global, name: &[u8]) -> Result<(), AllocError> {
+    pub fn note_speaker(&mut self, alloc: Global, name: &[u8]) -> Result<(), AllocError>
+        ensures spoken { OnOk result (KeepsName 256 self.old.spoken.items name.now self.new.spoken.items) }
+        ensures listed { self.new.listed ≡ self.old.listed }
+        ensures lists { self.new.lists ≡ self.old.lists }
+    {
         if self.has_spoken(name) {
             return Ok(());
         }
@@ -66,7 +81,12 @@ impl Company {
     }
 
     /// Takes note of a message: who is listed.
-    pub fn note_message(&mut self, message: &Message<'_>) -> Result<(), AllocError> {
+    pub fn note_message(&mut self, message: &Message<'_>) -> Result<(), AllocError>
+        ensures listed { (self.new.listed ≡ self.old.listed) ⊎ ((messages : List MessageValue)
+            → IsDirectory messages self.old.listed
+            → IsDirectory (messages ++ message_of message.now ∷ []) self.new.listed) }
+        ensures kept { self.new ≡ record self.old { listed = self.new.listed } }
+    {
         match self.listed.note(message) {
             Err(DirectoryFault::Memory) => Err(AllocError),
             // who finds no place is named by the client's own list
@@ -87,7 +107,9 @@ impl Company {
         said: &[u8],
         standing: Standing,
         page: &mut Page<'_>,
-    ) -> Result<Option<bool>, AllocError> {
+    ) -> Result<Option<bool>, AllocError>
+        ensures { IfOk result (λ said. said ≡ Some true → standing ≡ S.Invited) }
+    {
         let alloc = page.alloc;
         let Some(invitation) = read_invitation(alloc, without_spaces(said))? else {
             return Ok(None);
@@ -103,14 +125,16 @@ impl Company {
             return Ok(Some(true));
         }
         let start = page.text.len();
-        page.say_all(&[who.as_slice(), b"."])?;
-        page.end_row(start)?;
+        page.say_all(&[who.as_slice(), b".\n"])?;
+        fit_from(start, page)?;
         Ok(Some(false))
     }
 }
 
 /// Whether a text says no more than how one joins who has invited the user, which was said.
-pub fn is_told(said: &[u8], inviter: &Inviter) -> bool {
+pub fn is_told(said: &[u8], inviter: &Inviter) -> bool
+    ensures { IsTrue result → inviter.now.is_told ≡ true }
+{
     let quoted = match without_spaces(said).strip_prefix(b"Type 'join ") {
         None => return false,
         Some(rest) => rest.strip_suffix(b"' to accept."),

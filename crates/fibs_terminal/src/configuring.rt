@@ -1,4 +1,7 @@
 //! What a user's own settings change of a terminal.
+ghost use Rattle.std.specs.Prelude.{◌≡◌, ◌⊎◌, IfOk};
+ghost use Rattle.fibs_wording.specs.declared.environment.config.Setting.{Setting as TheSetting};
+ghost use Rattle.fibs_terminal.specs.Configured.{PeopleAfter, off_after, reconnecting_after, settings_after};
 
 use crate::screen::Screen;
 use crate::terminal::Terminal;
@@ -16,32 +19,59 @@ use std::time::Clock;
 const MOST_SHOWN: usize = 30;
 
 impl<'a> Screen<'a> {
-    /// Changes what a line of the file asks for. False if it is no setting.
-    fn set(&mut self, line: &[u8]) -> Result<bool, AllocError> {
+    /// Changes what a setting asks for. False if it names nobody whose words could be hidden.
+    fn change(&mut self, setting: Setting<'_>) -> Result<bool, AllocError>
+        ensures shown { self.new.page ≡ record self.old.page {
+          settings = settings_after setting.entry self.old.page.settings;
+        } }
+        ensures record { self.new.record ≡ record self.old.record {
+          is_off = off_after setting.entry self.old.record.is_off;
+        } }
+        ensures people { IfOk result (λ is_one. PeopleAfter setting.entry self.old.memory.program.people
+            self.new.memory.program.people) }
+        ensures memory { self.new.memory ≡ record self.old.memory {
+          program = record self.old.memory.program {
+            people = self.new.memory.program.people;
+            reconnecting = reconnecting_after setting.entry self.old.memory.program.reconnecting;
+          };
+        } }
+    {
         let alloc = self.page.alloc;
-        match read_setting(line) {
-            None => return Ok(false),
-            Some(Setting::Nothing) => {}
-            Some(Setting::Gag(name)) => return self.memory.program.people.hide(alloc, name),
-            Some(Setting::Quiet) => self.memory.program.people.hide_all(),
-            Some(Setting::Arrivals) => self.memory.program.people.arrivals = true,
-            Some(Setting::Words(telling)) => {
+        match setting {
+            Setting::Nothing => {}
+            Setting::Gag(name) => return self.memory.program.people.hide(alloc, name),
+            Setting::Quiet => self.memory.program.people.hide_all(),
+            Setting::Arrivals => self.memory.program.people.arrivals = true,
+            Setting::Words(telling) => {
                 self.page.settings.words = true;
                 self.page.settings.is_short = matches!(telling, Telling::Short);
             }
-            Some(Setting::NoColour) => self.page.settings.colour = false,
-            Some(Setting::NoBell) => self.page.settings.bell = false,
-            Some(Setting::NoTitle) => self.page.settings.title = false,
-            Some(Setting::NoRecord) => self.record.is_off = true,
-            Some(Setting::Letters(letters)) => self.page.settings.letters = Some(letters),
-            Some(Setting::HomeAbove) => self.page.settings.is_turned = true,
-            Some(Setting::Numbers(numbers)) => self.page.settings.numbers = numbers,
-            Some(Setting::BoardAbove(is_above)) => self.page.settings.above = Some(is_above),
+            Setting::NoColour => self.page.settings.colour = false,
+            Setting::NoBell => self.page.settings.bell = false,
+            Setting::NoTitle => self.page.settings.title = false,
+            Setting::NoRecord => self.record.is_off = true,
+            Setting::Letters(letters) => self.page.settings.letters = Some(letters),
+            Setting::HomeAbove => self.page.settings.is_turned = true,
+            Setting::Numbers(numbers) => self.page.settings.numbers = numbers,
+            Setting::BoardAbove(is_above) => self.page.settings.above = Some(is_above),
             // it is given as if it were typed
-            Some(Setting::OrderRoll) => {}
-            Some(Setting::Reconnect) => self.memory.program.reconnecting.ask(false),
+            Setting::OrderRoll => {}
+            Setting::Reconnect => self.memory.program.reconnecting.ask(false),
         }
         Ok(true)
+    }
+
+    /// Changes what a line of the file asks for. False if it is no setting.
+    fn set(&mut self, line: &[u8]) -> Result<bool, AllocError>
+        ensures text { self.new.page.text ≡ self.old.page.text }
+        ensures here { self.new.memory.here ≡ self.old.memory.here }
+        ensures settings { (self.new.page.settings ≡ self.old.page.settings)
+            ⊎ ((setting : TheSetting) × (self.new.page.settings ≡ settings_after setting self.old.page.settings)) }
+    {
+        match read_setting(line) {
+            None => Ok(false),
+            Some(setting) => self.change(setting),
+        }
     }
 
     /// Says that a line of the file is no setting.

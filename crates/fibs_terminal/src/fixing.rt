@@ -1,7 +1,12 @@
-//! `fix`: what the server plays by itself is turned off, and the user logs in again, since it counts from the next
-//! login on. Lines are typed for him, one after another; no decision is among them.
-ghost use Rattle.std.specs.Prelude.{◌≡◌, None};
-ghost use Rattle.fibs_terminal.specs.Fixing.{after_end, after_line, first_off, line_bytes, next_line};
+//! `fix`: what the server plays by itself is turned off, and the user logs in again if the client takes no decision
+//! before that. Lines are typed for him, one after another; no decision is among them.
+ghost use Rattle.std.specs.Prelude.{◌≡◌, ◌++◌, ◌||◌, None, OnOk, true};
+ghost use Rattle.fibs_position.specs.DecisionValue.{roll};
+ghost use Rattle.fibs_session.specs.Calls.Standing.{StandsAfter};
+ghost use Rattle.fibs_session.specs.History.Machine.{Talk, answer_now};
+ghost use Rattle.fibs_advice.specs.Passing.{is_greeted};
+ghost use Rattle.fibs_terminal.specs.Fixing.{after_asked, after_end, after_line, after_toggles, first_off, fix_words, line_bytes, next_line, plays_itself, toggles_line, turn_of};
+ghost use Rattle.fibs_terminal.specs.Toggles.{any_on};
 ghost use Rattle.fibs_terminal.specs.declared.fixing.Step.TheVariants as S;
 
 use crate::screen::Screen;
@@ -14,8 +19,10 @@ use std::cell::Cell;
 use std::io::Write;
 use std::time::Clock;
 
-/// What is said of the word, and if there is nothing to do.
+/// What is said of the word, if the user has to log in again and if he has not, and if there is nothing to do.
 const FIXES: &[u8] = b"fix: turns it off, leaves and logs in again.\n";
+
+const TURNS_OFF: &[u8] = b"fix: turns it off.\n";
 
 const NOTHING: &[u8] = b"fix: the server plays nothing for you.\n";
 
@@ -26,6 +33,10 @@ pub enum FixLine {
     Automove,
     /// `toggle greedy`
     Greedy,
+    /// `send toggle automove`
+    SendAutomove,
+    /// `send toggle greedy`
+    SendGreedy,
     /// `bye`
     Bye,
     /// `open`
@@ -40,6 +51,8 @@ impl FixLine {
         match self {
             FixLine::Automove => b"toggle automove\n",
             FixLine::Greedy => b"toggle greedy\n",
+            FixLine::SendAutomove => b"send toggle automove\n",
+            FixLine::SendGreedy => b"send toggle greedy\n",
             FixLine::Bye => b"bye\n",
             FixLine::Open => b"open\n",
         }
@@ -59,39 +72,84 @@ pub enum Step {
     Opens,
 }
 
-/// What is turned off first, if anything is on; else `bye`.
-fn first_off(automove: bool, greedy: bool) -> FixLine
+/// How a setting is turned off.
+#[derive(Clone, Copy, Debug, PartialEq, Eq)]
+pub enum Turn {
+    /// It is off.
+    IsOff,
+    /// By `toggle`, which the client takes.
+    Typed,
+    /// By `send toggle`: the client takes it for off.
+    AsItIs,
+}
+
+impl Turn {
+    /// Of a setting that may be on, and whose `toggle` the client takes or not.
+    pub fn of(is_on: bool, is_taken: bool) -> Turn
+        ensures { result ≡ turn_of is_on is_taken }
+    {
+        match (is_on, is_taken) {
+            (false, _) => Turn::IsOff,
+            (true, true) => Turn::Typed,
+            (true, false) => Turn::AsItIs,
+        }
+    }
+}
+
+/// What is turned off first, if anything is on.
+fn first_off(automove: Turn, greedy: Turn) -> Option<FixLine>
     ensures { result ≡ first_off automove greedy }
 {
-    if automove {
-        FixLine::Automove
-    } else if greedy {
-        FixLine::Greedy
-    } else {
-        FixLine::Bye
+    match (automove, greedy) {
+        (Turn::Typed, _) => Some(FixLine::Automove),
+        (Turn::AsItIs, _) => Some(FixLine::SendAutomove),
+        (Turn::IsOff, Turn::Typed) => Some(FixLine::Greedy),
+        (Turn::IsOff, Turn::AsItIs) => Some(FixLine::SendGreedy),
+        (Turn::IsOff, Turn::IsOff) => None,
+    }
+}
+
+/// The line that is typed as long as something may be on.
+fn toggles_line(first: Option<FixLine>, plays: bool) -> Option<FixLine>
+    ensures { result ≡ toggles_line first plays }
+{
+    match first {
+        Some(line) => Some(line),
+        None => { if plays { Some(FixLine::Bye) } else { None } }
+    }
+}
+
+/// Where it is after that line.
+fn after_toggles(first: Option<FixLine>, plays: bool) -> Step
+    ensures { result ≡ after_toggles first plays }
+{
+    match first {
+        Some(_) => Step::Toggles,
+        None => { if plays { Step::Leaves } else { Step::Nothing } }
     }
 }
 
 impl Step {
-    /// The line that is typed now, if `toggle automove` turns something off now, or `toggle greedy` does.
-    fn next_line(self, automove: bool, greedy: bool) -> Option<FixLine>
-        ensures { result ≡ next_line self automove greedy }
+    /// The line that is typed now, by how both settings are turned off, and whether the client takes no decision before
+    /// the next login.
+    fn next_line(self, automove: Turn, greedy: Turn, plays: bool) -> Option<FixLine>
+        ensures { result ≡ next_line self automove greedy plays }
     {
         match self {
-            Step::Toggles => Some(first_off(automove, greedy)),
+            Step::Toggles => toggles_line(first_off(automove, greedy), plays),
             Step::Opens => Some(FixLine::Open),
             Step::Nothing | Step::Leaves => None,
         }
     }
 
     /// Where it is after that line.
-    fn after_line(self, automove: bool, greedy: bool) -> Step
-        ensures { result ≡ after_line self automove greedy }
+    fn after_line(self, automove: Turn, greedy: Turn, plays: bool) -> Step
+        ensures { result ≡ after_line self automove greedy plays }
     {
-        match (self, automove, greedy) {
-            (Step::Toggles, false, false) => Step::Leaves,
-            (Step::Opens, _, _) => Step::Nothing,
-            _ => self,
+        match self {
+            Step::Toggles => after_toggles(first_off(automove, greedy), plays),
+            Step::Opens => Step::Nothing,
+            Step::Nothing | Step::Leaves => self,
         }
     }
 
@@ -129,7 +187,7 @@ impl Fixing {
 
     /// The user asks for it.
     pub fn begin(&mut self)
-        ensures { self.new.step ≡ S.Toggles }
+        ensures { self.new ≡ record self.old { step = S.Toggles } }
     {
         self.step = Step::Toggles;
     }
@@ -145,12 +203,12 @@ impl Fixing {
     }
 
     /// The user may type: which line is typed for him.
-    pub fn rest(&mut self, automove: bool, greedy: bool)
-        ensures line { self.new.line ≡ next_line self.old.step automove greedy }
-        ensures step { self.new.step ≡ after_line self.old.step automove greedy }
+    pub fn rest(&mut self, automove: Turn, greedy: Turn, plays: bool)
+        ensures line { self.new.line ≡ next_line self.old.step automove greedy plays }
+        ensures step { self.new.step ≡ after_line self.old.step automove greedy plays }
     {
-        self.line = self.step.next_line(automove, greedy);
-        self.step = self.step.after_line(automove, greedy);
+        self.line = self.step.next_line(automove, greedy, plays);
+        self.step = self.step.after_line(automove, greedy, plays);
     }
 
     /// Says here which line is to be typed, if one is.
@@ -161,20 +219,44 @@ impl Fixing {
     }
 }
 
+/// Whether the client would take no decision before the next login, since the server plays for the user: why it would
+/// refuse to roll says so.
+pub(crate) fn plays_itself(why: Option<Refusal>) -> bool
+    ensures { result ≡ plays_itself why }
+{
+    why == Some(Refusal::ServerPlays)
+}
+
 impl<'a> Screen<'a> {
-    /// Answers `fix`: lines are typed for the user, if the server plays for him.
+    /// Answers `fix`: lines are typed for the user, if the server plays for him, by whichever word he has had it do so;
+    /// else what is advised follows.
     pub(crate) fn fix(&mut self, client: &Client) -> Result<(), AllocError>
         ensures looking { self.new.memory.here.looking ≡ self.old.memory.here.looking }
+        ensures begins { any_on self.old.memory.here.toggles ≡ true → self.new.memory.program.fixing.step ≡ S.Toggles }
+        ensures fixing { (t : Talk) → StandsAfter client.now t → self.new.memory.program.fixing ≡
+            after_asked (answer_now t roll) self.old.memory.here.toggles self.old.memory.program.fixing }
+        ensures says { OnOk result ((t : Talk) → StandsAfter client.now t →
+            is_greeted (answer_now t roll) || any_on self.old.memory.here.toggles ≡ true →
+            self.new.page.text.items ≡ self.old.page.text.items ++
+            fix_words (plays_itself (answer_now t roll)) (any_on self.old.memory.here.toggles)) }
     {
-        match client.refusal(&Decision::Roll) {
-            Some(Refusal::ServerPlays) => {
-                self.memory.program.fixing.begin();
-                self.page.say(FIXES)
-            }
+        let why = client.refusal(&Decision::Roll);
+        if plays_itself(why) {
+            self.memory.program.fixing.begin();
+            return self.page.say(FIXES);
+        }
+        if self.memory.here.toggles.any_on() {
+            self.memory.program.fixing.begin();
+            return self.page.say(TURNS_OFF);
+        }
+        match why {
             Some(why) if why == Refusal::Offline || why == Refusal::NotReady => {
                 self.page.say_all(&[refusal_words(why), b"\n"])
             }
-            _ => self.page.say(NOTHING),
+            _ => {
+                self.memory.here.advising.inquired = true;
+                self.page.say(NOTHING)
+            }
         }
     }
 }

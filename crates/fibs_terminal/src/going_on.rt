@@ -1,57 +1,40 @@
-//! Rows of words that go on in another row, which begins with their space.
-ghost use Rattle.std.specs.Prelude.{◌≡◌, OnOk};
-ghost use Rattle.fibs_picture.specs.InWords.Rows.{rejoined};
+//! Rows of the terminal's own words: each has room, and what goes on of one begins with its space.
+ghost use Rattle.std.specs.Prelude.{◌≡◌, OnOk, drop, take};
+ghost use Rattle.fibs_picture.specs.InWords.Rows.{Says};
+ghost use Rattle.fibs_terminal.specs.GoingOn.{own_columns};
 
+use fibs_picture::in_words::append_rows_of;
+use fibs_wording::environment::Page;
 use std::alloc::AllocError;
 
-/// Where the piece of a row ends that begins at a place: at the next space, or at the end of the row.
-fn piece_end(text: &[u8], place: usize) -> usize {
-    for at in place.saturating_add(1)..text.len() {
-        if text[at] == b' ' || text[at] == b'\n' {
-            return at;
-        }
-    }
-    text.len()
+/// A table has no room in fewer columns: what it tells is said in sentences.
+const TABLE_COLUMNS: usize = 72;
+
+/// Whether the terminal is too narrow for tables.
+pub(crate) fn is_narrow(page: &Page<'_>) -> bool {
+    page.settings.columns < TABLE_COLUMNS
 }
 
-/// Puts a line end before a space; nothing before any other byte.
-fn open_row(place: usize, text: &mut Vec<u8>) -> Result<(), AllocError>
-    ensures { OnOk result (rejoined text.new.items ≡ rejoined text.old.items) }
+/// Says rows.
+pub(crate) fn say_rows(said: &[u8], page: &mut Page<'_>) -> Result<(), AllocError>
+    ensures said { OnOk result (Says (own_columns page.old.settings) said.now page.old.text.items page.new.text.items) }
+    ensures settings { page.new.settings ≡ page.old.settings }
 {
-    if place < text.len() && text[place] == b' ' {
-        text.insert(place, b'\n')?;
-    }
-    Ok(())
+    let columns = page.columns();
+    append_rows_of(said, columns, &mut page.text)
 }
 
-/// Makes rows of what a text has from a place on, each no wider than these columns if no word is: line ends are put
-/// before some of its spaces, and nothing else changes. It has printed ASCII.
-///
-/// Errors: if memory runs out.
-pub(crate) fn go_on_with_spaces(
-    start: usize,
-    columns: usize,
-    text: &mut Vec<u8>,
-) -> Result<(), AllocError>
-    ensures { OnOk result (rejoined text.new.items ≡ rejoined text.old.items) }
+/// Has what is written from a place on in such rows.
+#[tactic(auto, using(crate::proofs::FittingLemmas::fits_none, crate::proofs::FittingLemmas::fits_some))]
+pub(crate) fn fit_from(start: usize, page: &mut Page<'_>) -> Result<(), AllocError>
+    ensures { OnOk result (Says (own_columns page.old.settings) (drop start page.old.text.items)
+        (take start page.old.text.items) page.new.text.items) }
 {
-    let mut place = start;
-    let mut column = 0usize;
-    for _ in 0..text.len() {
-        let end = piece_end(text.as_slice(), place);
-        let wide = end.saturating_sub(place);
-        if column > 0 && column.saturating_add(wide) > columns {
-            open_row(place, text)?;
-            column = wide;
-            place = end.saturating_add(1);
-        } else {
-            column = column.saturating_add(wide);
-            place = end;
-        }
-        if place < text.len() && text[place] == b'\n' {
-            column = 0;
-            place = place.saturating_add(1);
-        }
+    if start >= page.text.len() {
+        return Ok(());
     }
-    Ok(())
+    let alloc = page.alloc;
+    let said = Vec::from_slice(alloc, &page.text.as_slice()[start..])?;
+    page.text.truncate(start);
+    say_rows(said.as_slice(), page)
 }

@@ -6,9 +6,11 @@ ghost use Rattle.fibs_connect.specs.Wishes.{wish_value};
 ghost use Rattle.fibs_terminal.specs.Asking.{AsksInBounds, SendsUntaken, ShownGoesOn};
 ghost use Rattle.fibs_terminal.specs.Leaving.{KnownGoesOnOrAsks, QuitsOrAsks, TakesLeave, asked_first, is_again, is_match_on, leave_of, leave_word};
 ghost use Rattle.fibs_terminal.specs.Sending.{SendsOnWord};
-ghost use Rattle.fibs_terminal.specs.Trying.{GoesOn, ShowsTry, TriesOrKeeps};
+ghost use Rattle.fibs_terminal.specs.Trying.{GoesOn, KeepsUnanswered, ShowsTry, TriesOrKeeps};
+ghost use Rattle.fibs_terminal.specs.TypedMoves.{KeepsTyped};
 
 use crate::account::is_free;
+use crate::going_on::fit_from;
 use crate::memory::Memory;
 use crate::screen::Screen;
 use fibs_connect::typed_line::TypedLine;
@@ -97,19 +99,20 @@ pub(crate) fn is_match_over(board: &Board) -> bool
     )
 }
 
-/// Asks whether the user leaves his match with an opponent, whose name may not be known.
+/// Asks whether the user leaves his match with an opponent, whose name may not be known, and says how it is resumed:
+/// no server is bound to save it.
 fn say_leave(leave: Leave, opponent: &[u8], page: &mut Page<'_>) -> Result<(), AllocError> {
     let start = page.text.len();
     page.say(b"You are in a match")?;
     if !opponent.is_empty() {
         page.say_all(&[b" with ", short_name(opponent)])?;
     }
-    page.say_all(&[
-        b", which most servers save: ",
-        leave.word(),
-        b" again leaves.",
-    ])?;
-    page.end_row(start)
+    page.say_all(&[b": ", leave.word(), b" again leaves.\nMost servers save it"])?;
+    if !opponent.is_empty() {
+        page.say_all(&[b": invite ", opponent, b" then resumes it"])?;
+    }
+    page.say(b".\n")?;
+    fit_from(start, page)
 }
 
 impl Memory {
@@ -125,7 +128,7 @@ impl Memory {
 
 impl<'a> Screen<'a> {
     /// What a line asks for. The first one that takes leave of a match is only answered.
-    pub(crate) fn wish(
+    pub(crate) fn wish_leaving(
         &mut self,
         client: &Client,
         directory: &Directory,
@@ -148,6 +151,9 @@ impl<'a> Screen<'a> {
         ensures went { GoesOn client.now self.old.memory.here.looking.trial line.old.items line.new.items result }
         ensures shown { ShowsTry client.now self.old.page.settings line.old.items self.new.memory.here.looking.trial
             self.old.page.text.items self.new.page.text.items result }
+        ensures still { KeepsUnanswered self.old.memory.here.looking.trial self.new.memory.here.looking.trial result }
+        ensures typed { KeepsTyped client.now self.old.page.settings.numbers line.old.items
+            self.new.memory.here.looking.trial result }
     {
         let is_on = self.memory.is_match_on();
         let before = self.memory.here.table.leave;

@@ -3,6 +3,7 @@
 #![tactic(auto)]
 
 mod account;
+mod beginning;
 mod commands;
 mod company;
 mod configuring;
@@ -15,6 +16,7 @@ mod listening;
 mod looking;
 mod memory;
 mod numbering;
+pub mod ordering;
 mod people;
 mod placing;
 mod reconnecting;
@@ -30,6 +32,7 @@ mod talk;
 mod telling;
 mod terminal;
 mod title;
+mod toggles;
 mod watching;
 
 pub use fixing::FixLine;

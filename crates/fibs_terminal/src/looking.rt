@@ -13,7 +13,7 @@ ghost use Rattle.fibs_terminal.specs.Trying.{DrawsTrial, IsTriedNow, SendsTried,
 
 use crate::commands::{say_no_game, set_line};
 use crate::drawing::append_picture;
-use crate::going_on::go_on_with_spaces;
+use crate::going_on::say_rows;
 use fibs_advice::plays::{Listing, Sheet, append_plays};
 use fibs_advice::trial::Trial;
 use fibs_commands::laws::read_command_is_exact;
@@ -22,7 +22,6 @@ use fibs_connect::wish::Wish;
 use fibs_position::{Decision, Numbers};
 use fibs_session::Client;
 use fibs_wording::environment::Page;
-use fibs_wording::environment::broken::break_at_spaces;
 use std::alloc::AllocError;
 
 /// What is said if `plays` is followed by no place.
@@ -67,21 +66,23 @@ fn append_drawn(trial: &Trial, page: &mut Page<'_>) -> Result<(), AllocError>
 {
     let alloc = page.alloc;
     append_picture(alloc, trial.after(), &page.settings, &mut page.text)?;
-    append_command(trial, page.settings.numbers, &mut page.text)?;
+    let mut row = Vec::new(alloc);
+    append_command(trial, page.settings.numbers, &mut row)?;
+    say_rows(row.as_slice(), page)?;
     Ok(())
 }
 
 /// Appends in words what a move that is tried changes, and how it is sent.
 fn append_told(trial: &Trial, page: &mut Page<'_>) -> Result<(), AllocError>
     ensures { OnOk result
-        (TellsTrial page.old.settings.numbers trial.now page.old.text.items page.new.text.items) }
+        (TellsTrial page.old.settings trial.now page.old.text.items page.new.text.items) }
 {
     let alloc = page.alloc;
-    let start = page.text.len();
     let numbers = page.settings.numbers;
-    trial.append_changes(alloc, numbers, &mut page.text)?;
-    append_command(trial, numbers, &mut page.text)?;
-    go_on_with_spaces(start, page.columns(), &mut page.text)?;
+    let mut said = Vec::new(alloc);
+    trial.append_changes(alloc, numbers, &mut said)?;
+    append_command(trial, numbers, &mut said)?;
+    say_rows(said.as_slice(), page)?;
     Ok(())
 }
 
@@ -90,7 +91,7 @@ fn append_trial(trial: &Trial, page: &mut Page<'_>) -> Result<(), AllocError>
     ensures drawn { page.old.settings.words ≡ false → OnOk result
         (DrawsTrial page.old.settings trial.now page.old.text.items page.new.text.items) }
     ensures told { page.old.settings.words ≡ true → OnOk result
-        (TellsTrial page.old.settings.numbers trial.now page.old.text.items page.new.text.items) }
+        (TellsTrial page.old.settings trial.now page.old.text.items page.new.text.items) }
 {
     if page.settings.words {
         return append_told(trial, page);
@@ -154,10 +155,9 @@ impl Looking {
             columns: page.columns(),
             is_told: page.settings.words,
         };
-        let start = page.text.len();
-        self.plays = append_plays(alloc, game, &sheet, listing, &mut page.text)?;
-        break_at_spaces(start, page.columns(), &mut page.text);
-        Ok(())
+        let mut rows = Vec::new(alloc);
+        self.plays = append_plays(alloc, game, &sheet, listing, &mut rows)?;
+        say_rows(rows.as_slice(), page)
     }
 
     /// Nothing is tried any more.
@@ -187,10 +187,12 @@ impl Looking {
         if trial.is_on(game) { Some(trial) } else { None }
     }
 
-    /// Asks to send the move that was tried, if it was tried on the board that is shown.
+    /// Asks to send the move that was tried, if it was tried on the board that is shown. A user who is in no match is
+    /// told so.
     pub fn send_tried(
         &self,
         client: &Client,
+        is_free: bool,
         line: &mut TypedLine,
         page: &mut Page<'_>,
     ) -> Result<Wish, AllocError>
@@ -205,6 +207,10 @@ impl Looking {
                 read_command_is_exact();
                 set_line(line, trial.command().as_str().as_bytes());
                 Ok(Wish::Say)
+            }
+            None if is_free => {
+                say_no_game(client, page)?;
+                Ok(Wish::Answered)
             }
             None => {
                 page.say(NOTHING_TRIED)?;

@@ -18,6 +18,7 @@ use crate::results::Results;
 use crate::table::{KeptTable, Table};
 use crate::talk::Talk;
 use crate::title::Title;
+use crate::toggles::Toggles;
 use fibs_advice::passing::Passing;
 use fibs_advice::situation::{Kept as KeptSituation, Situation};
 use fibs_position::Direction;
@@ -76,6 +77,10 @@ pub struct Connection {
     pub list: List,
     /// What of the login has not come.
     pub greeting: Greeting,
+    /// What the server plays for the user by itself.
+    pub toggles: Toggles,
+    /// Whether the user was asked on it if he begins a match in which the server plays for him.
+    pub is_warned: bool,
     /// When the connection was made.
     pub opened: Duration,
     /// The text of the server that was shown last, until a board comes.
@@ -89,7 +94,7 @@ pub struct Connection {
     pub direction: Option<Direction>,
     /// Whether the last line that was sent asks for the moves of a game.
     pub lists_moves: bool,
-    /// The match that has ended, until it is said how another one is played.
+    /// The match that has ended, of which is said how another one is played.
     pub rematch: Option<Rematch>,
 }
 
@@ -183,6 +188,8 @@ impl Connection {
             company: Company::new(alloc),
             list: List::new(alloc),
             greeting: Greeting::new(),
+            toggles: Toggles::new(),
+            is_warned: false,
             opened,
             said: Vec::new(alloc),
             rule: Vec::new(alloc),
@@ -200,6 +207,8 @@ impl Connection {
         ensures story { is_resumed ≡ false → IsNewStory self.new.table.story }
         ensures another { self.old.table.opponent.items ≢ self.old.situation.opponent.name.items →
             self.new.table.boards ≡ no_boards × IsNewStory self.new.table.story }
+        ensures leave { self.new.table.leave ≡ None }
+        ensures kept { self.new ≡ record self.old { table = self.new.table; watching = nothing_watched } }
     {
         self.table
             .meet(alloc, self.situation.opponent.name.as_slice());

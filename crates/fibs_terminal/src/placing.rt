@@ -2,6 +2,7 @@
 ghost use Rattle.std.specs.Prelude.{◌≡◌};
 
 use crate::drawing::{end_text, is_wanted};
+use crate::going_on::say_rows;
 use crate::screen::Screen;
 use fibs_fields::decimal::read_decimal;
 use fibs_wording::environment::{Settings, read_place};
@@ -91,7 +92,7 @@ impl<'a> Screen<'a> {
         ensures { self.new.memory.here ≡ self.old.memory.here }
     {
         match number_in(rest, LEAST_COLUMNS) {
-            None => self.page.say(WHICH_COLUMNS),
+            None => say_rows(WHICH_COLUMNS, &mut self.page),
             Some(columns) => {
                 self.page.settings.columns = columns;
                 self.stand_after_change()
@@ -104,7 +105,7 @@ impl<'a> Screen<'a> {
         ensures { self.new.memory.here ≡ self.old.memory.here }
     {
         match number_in(rest, LEAST_ROWS) {
-            None => self.page.say(WHICH_ROWS),
+            None => say_rows(WHICH_ROWS, &mut self.page),
             Some(rows) => {
                 self.page.settings.rows = rows;
                 self.stand_after_change()
@@ -117,17 +118,17 @@ impl<'a> Screen<'a> {
         ensures { self.new.memory.here ≡ self.old.memory.here }
     {
         let Some(is_above) = read_place(rest) else {
-            return self.page.say(WHICH_PLACE);
+            return say_rows(WHICH_PLACE, &mut self.page);
         };
         self.page.settings.above = Some(is_above);
         let stands = self.stand_again()?;
         if !is_above {
-            self.page.say(BELOW)
+            say_rows(BELOW, &mut self.page)
         } else if stands {
-            self.page.say(ABOVE)
+            say_rows(ABOVE, &mut self.page)
         } else {
             let why = why_below(&self.page.settings);
-            self.page.say(why)
+            say_rows(why, &mut self.page)
         }
     }
 }

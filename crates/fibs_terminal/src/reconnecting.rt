@@ -1,7 +1,9 @@
 //! A connection that has ended is opened again, if the user asks for it: when the next try comes. The program then
 //! types `open` for him, and nothing else.
-ghost use Rattle.std.specs.Prelude.{◌≡◌, ◌||◌, None, Some, cond, false, true};
-ghost use Rattle.fibs_terminal.specs.Again.{IsDue, after_asked, after_failed, after_lost, after_opened, after_stay, goes_on, next_wait, takes_leave};
+ghost use Rattle.std.specs.Prelude.{◌≡◌, ◌||◌, ◌-◌, None, OnOk, Some, cond, false, true};
+ghost use Rattle.std.specs.Duration.{as_nanos};
+ghost use Rattle.fibs_terminal.specs.Again.{IsDue, SaysEnd, after_asked, after_failed, after_lost, after_opened, after_stay, end_words, goes_on, next_wait, takes_leave};
+ghost use Rattle.fibs_terminal.specs.Noted.{Reconnects};
 
 use crate::screen::{Moment, Screen};
 use crate::terminal::Terminal;
@@ -190,6 +192,19 @@ fn say_seconds(seconds: u64, before: &[u8], page: &mut Page<'_>) -> Result<(), A
     page.say(b" s; stay leaves it closed, quit ends\n")
 }
 
+/// What is said at the end of a connection for whose opening nobody waits: whether the user has taken leave of the
+/// server himself, and whether `fix` opens it again.
+fn end_words(has_left: bool, fixes: bool) -> &'static [u8]
+    ensures { result.now ≡ end_words has_left fixes }
+{
+    match (has_left, fixes) {
+        (false, false) => b"lost: open connects again, quit ends\n",
+        (false, true) => b"lost: connecting again\n",
+        (true, false) => b"closed, as you asked: open connects again, quit ends\n",
+        (true, true) => b"closed, as you asked: connecting again\n",
+    }
+}
+
 /// Whether there is no connection.
 fn is_offline(client: &Client) -> bool {
     client.refusal(&Decision::Roll) == Some(Refusal::Offline)
@@ -197,21 +212,32 @@ fn is_offline(client: &Client) -> bool {
 
 impl<'a> Screen<'a> {
     /// Takes note that the connection has ended, and says what follows.
-    pub(crate) fn say_lost(&mut self, moment: Moment) -> Result<(), AllocError> {
+    pub(crate) fn say_lost(&mut self, moment: Moment) -> Result<(), AllocError>
+        ensures says { OnOk result (SaysEnd self.old.memory.program.reconnecting self.old.page.text.items
+            self.new.page.text.items) }
+        ensures noted { Reconnects self.old.memory (as_nanos moment.passed - as_nanos self.old.memory.here.opened)
+            self.new.memory }
+    {
         let lasted = moment.passed.saturating_sub(self.memory.here.opened);
         let reconnecting = &mut self.memory.program.reconnecting;
         reconnecting.hear_lost(lasted.as_secs() >= LASTED);
         let seconds = reconnecting.seconds();
+        let has_left = reconnecting.has_left();
         let fixes = self.memory.program.fixing.hear_lost(seconds.is_some());
         match seconds {
-            None if fixes => self.page.say(b"lost: connecting again\n"),
-            None => self.page.say(b"lost: open connects again, quit ends\n"),
+            None => self.page.say(end_words(has_left, fixes)),
             Some(seconds) => say_seconds(seconds, b"lost: connecting again in ", &mut self.page),
         }
     }
 
     /// Takes note that no connection could be made, and says what follows.
-    pub(crate) fn say_next_try(&mut self) -> Result<(), AllocError> {
+    pub(crate) fn say_next_try(&mut self) -> Result<(), AllocError>
+        ensures { self.new.memory ≡ record self.old.memory {
+          program = record self.old.memory.program {
+            reconnecting = after_failed self.old.memory.program.reconnecting;
+          };
+        } }
+    {
         let reconnecting = &mut self.memory.program.reconnecting;
         reconnecting.hear_failed();
         match reconnecting.seconds() {

@@ -1,7 +1,9 @@
 //! What the matches of the user have changed: how the server rates him, and the match that has ended last.
 ghost use Rattle.std.specs.Prelude.{◌≡◌, ◌≤◌, length, IfSome, IsSome, None, Some};
+ghost use Rattle.std.specs.Option.{option_copied};
+ghost use Rattle.fibs_fields.specs.StoredBoard.{fields_of};
 ghost use Rattle.fibs_wording.specs.Matches.{final_score};
-ghost use Rattle.fibs_terminal.specs.Ended.{is_alike, rated_by, says_nothing_new, unrated_after};
+ghost use Rattle.fibs_terminal.specs.Ended.{is_alike, rated_by, score_of, says_nothing_new, unrated_after};
 
 use fibs_advice::situation::{KeptName, kept_name};
 use fibs_fields::boards::Board;
@@ -70,7 +72,10 @@ fn says_nothing_new(before: Option<Rated>, now: Rated) -> bool
 }
 
 /// The score of a match of some length that a board shows.
-pub fn score_on(board: &Board) -> Option<Score> {
+#[tactic(auto, unfolding(fibs_fields::specs::Board::field_values))]
+pub fn score_on(board: &Board) -> Option<Score>
+    ensures { result ≡ score_of (fields_of board.now) }
+{
     if board.field(MATCH_LENGTH) == UNLIMITED {
         return None;
     }
@@ -169,7 +174,9 @@ impl Results {
     }
 
     /// The same, which may still be rated.
-    pub fn unrated(&self) -> Option<&Ended> {
+    pub fn unrated(&self) -> Option<&Ended>
+        ensures { option_copied result ≡ self.now.ended }
+    {
         self.ended.as_ref()
     }
 }

@@ -1,26 +1,33 @@
 //! Lines that go to the server past the client: by the word `send`, and decisions, on the server's word.
-ghost use Rattle.std.specs.Prelude.{◌≡◌, IfOk, codes, is_some, option_map};
+ghost use Rattle.std.specs.Prelude.{◌≡◌, ◌++◌, IfOk, OnOk, codes, is_some, option_map};
 ghost use Rattle.std.specs.Str.{str_eq_ignore_ascii_case};
 ghost use Rattle.fibs_position.specs.DecisionValue.{decision_of};
+ghost use Rattle.fibs_position.specs.GameOf.{game_of};
 ghost use Rattle.fibs_session.specs.History.Allows.{refusal_of};
 ghost use Rattle.fibs_session.specs.History.Machine.{Talk};
 ghost use Rattle.fibs_session.specs.Calls.Standing.{StandsAfter};
 ghost use Rattle.fibs_session.specs.Typing.{decided, typed_by};
+ghost use Rattle.fibs_advice.specs.Doubling.{NamesNoDouble};
+ghost use Rattle.fibs_advice.specs.Moved.{spelled_in};
 ghost use Rattle.fibs_terminal.specs.Asking.{SendsUntaken};
 ghost use Rattle.fibs_terminal.specs.Leaving.{NeverQuits};
-ghost use Rattle.fibs_terminal.specs.Sending.{Decides, says_send};
+ghost use Rattle.fibs_terminal.specs.Sending.{Decides, SaysWithout, says_send};
 
 use crate::commands::set_line;
 use crate::screen::Screen;
+use fibs_advice::doubling::why_no_double;
 use fibs_advice::passing::{Passing, passing_of};
 use fibs_advice::rules::append_rule;
+use fibs_advice::spelling::words::way_now;
 use fibs_connect::typed_line::TypedLine;
 use fibs_connect::wish::Wish;
 use fibs_fields::split::split;
-use fibs_position::{Decision, Direction, Disallowed, Numbers};
+use fibs_position::laws::decisions_are_valid;
+use fibs_position::{Decision, Direction, Disallowed, GameBoard, Numbers};
+use fibs_session::laws::shown_is_read;
 use fibs_session::typed::meant::read_typed_by;
 use fibs_session::typed::taking::would_take;
-use fibs_session::typed::typing::{Typed, read_typed};
+use fibs_session::typed::typing::Typed;
 use fibs_session::{Client, Refusal, decision_text};
 use fibs_wording::environment::Page;
 use std::alloc::AllocError;
@@ -58,19 +65,36 @@ pub(crate) fn decision_typed(client: &Client, numbers: Numbers, line: &[u8]) -> 
     }
 }
 
-/// Says how a line is typed that the client would take: a decision in the numbers that the user reads.
-fn say_without_send(client: &Client, line: &[u8], page: &mut Page<'_>) -> Result<(), AllocError> {
-    page.say(b"Type it without send: ")?;
-    match read_typed(client, line) {
-        Typed::Decision(decision) => {
-            let way = page
-                .settings
-                .numbers
-                .way(client.direction().unwrap_or(Direction::Down));
-            page.show_row(decision_text(&decision, way).as_bytes())
-        }
-        _ => page.show_row(line),
+/// Appends what is typed in place of a line: the decision that it is, by numbers by which the user goes this way.
+fn append_as_typed(
+    decision: &Option<Decision>,
+    line: &[u8],
+    way: Direction,
+    text: &mut Vec<u8>,
+) -> Result<(), AllocError>
+    ensures { OnOk result (text.new.items ≡ text.old.items ++
+        spelled_in way line.now (option_map decision_of decision.now)) }
+{
+    match decision {
+        Some(decision) => text.extend_from_slice(decision_text(decision, way).as_bytes()),
+        None => text.extend_from_slice(line),
     }
+}
+
+/// Says how a line is typed that the client would take: a decision in the numbers that the user reads.
+fn say_without_send(client: &Client, line: &[u8], page: &mut Page<'_>) -> Result<(), AllocError>
+    ensures { OnOk result ((t : Talk) → StandsAfter client.now t →
+        SaysWithout page.old.settings.numbers t line.now page.old.text.items page.new.text.items) }
+{
+    // Laws, which cost nothing when they run.
+    shown_is_read();
+    decisions_are_valid();
+    let way = way_now(client, page.settings.numbers);
+    let decision = decision_typed(client, Numbers::TheServers, line);
+    page.text.extend_from_slice(b"Type it without send: ")?;
+    append_as_typed(&decision, line, way, &mut page.text)?;
+    page.text.extend_from_slice(b"\n")?;
+    Ok(())
 }
 
 /// Sends a line as it is, unless the client would take it.
@@ -106,6 +130,31 @@ fn refusal_of(why: Disallowed) -> Refusal
     }
 }
 
+/// Appends why a double can't be made on a board, if it can't.
+fn append_no_double(game: &GameBoard, rule: &mut Vec<u8>) -> Result<(), AllocError>
+    ensures { OnOk result (NamesNoDouble (game_of game.now) rule.old.items rule.new.items) }
+{
+    match why_no_double(game) {
+        None => Ok(()),
+        Some(why) => rule.extend_from_slice(why.words()),
+    }
+}
+
+/// Keeps why a decision can't be made on the board, if it is a double that the client refuses for it.
+fn note_no_double(
+    client: &Client,
+    decision: &Decision,
+    rule: &mut Vec<u8>,
+) -> Result<(), AllocError> {
+    if *decision != Decision::Double {
+        return Ok(());
+    }
+    match (client.refusal(decision), client.game()) {
+        (Some(Refusal::NotYours | Refusal::WrongKind), Some(game)) => append_no_double(game, rule),
+        _ => Ok(()),
+    }
+}
+
 impl<'a> Screen<'a> {
     /// What a decision asks for: the client answers it; or it goes past the client, on the server's word; or it might,
     /// and the rules forbid it.
@@ -119,6 +168,7 @@ impl<'a> Screen<'a> {
         ensures looking { self.new.memory.here.looking ≡ self.old.memory.here.looking }
         ensures quits { NeverQuits result }
     {
+        note_no_double(client, decision, &mut self.memory.here.rule)?;
         let standing = self.memory.here.situation.standing;
         let passing = passing_of(client, standing, decision);
         self.memory.here.passing = passing;
@@ -132,7 +182,7 @@ impl<'a> Screen<'a> {
         }
     }
 
-    /// Says why the rules forbid a decision: of a move which rule it is.
+    /// Says why the rules forbid a decision: of a move or a double which rule it is.
     fn say_forbidden(
         &mut self,
         client: &Client,
@@ -141,9 +191,14 @@ impl<'a> Screen<'a> {
     ) -> Result<(), AllocError>
         ensures { self.new.memory.here.looking ≡ self.old.memory.here.looking }
     {
-        if let (Decision::Move(play), Some(game)) = (decision, client.game()) {
-            let numbers = self.page.settings.numbers;
-            append_rule(game, numbers, play, &mut self.memory.here.rule)?;
+        let numbers = self.page.settings.numbers;
+        let rule = &mut self.memory.here.rule;
+        match (decision, why, client.game()) {
+            (Decision::Move(play), Disallowed::IllegalPlay, Some(game)) => {
+                append_rule(game, numbers, play, rule)?
+            }
+            (Decision::Double, _, Some(game)) => append_no_double(game, rule)?,
+            _ => {}
         }
         self.say_refused(refusal_of(why))
     }

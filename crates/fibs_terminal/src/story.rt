@@ -1,8 +1,11 @@
 //! The turns of a game, as far as boards show them.
-ghost use Rattle.std.specs.Prelude.{◌≡◌, IfNone, IfOk, IfSome, OnOk, Some, false, option_map};
+ghost use Rattle.std.specs.Prelude.{◌≡◌, [], IfNone, IfOk, IfSome, OnOk, Some, false, true, option_map};
+ghost use Rattle.fibs_position.specs.DirectionOf.{direction_of};
 ghost use Rattle.fibs_position.specs.GameOf.{game_of};
 ghost use Rattle.fibs_terminal.specs.HitsTold.{TellsHits, has_told, tells_hits};
+ghost use Rattle.fibs_terminal.specs.StoryKept.{KeepsTurn, way_of};
 ghost use Rattle.fibs_terminal.specs.Tables.{IsNewStory};
+ghost use Rattle.fibs_terminal.specs.Turns.{begins_anew};
 
 mod hits;
 mod turn;
@@ -60,7 +63,11 @@ impl Story {
     ///
     /// Errors: if memory runs out; then the turn before it is not kept.
     pub fn hear_board(&mut self, alloc: Global, game: &GameBoard) -> Result<(), AllocError>
-        ensures { option_map game_of self.new.last ≡ Some (game_of game.now) }
+        ensures last { option_map game_of self.new.last ≡ Some (game_of game.now) }
+        // Of another game nothing is kept, nor of a first board.
+        ensures anew { IfSome self.old.last (λ before. begins_anew (game_of before) (game_of game.now) ≡ true →
+            (self.new.turns.items ≡ []) × (self.new.forgotten ≡ 0)) }
+        ensures first { IfNone self.old.last (self.new.turns ≡ self.old.turns) }
     {
         let last = self.last;
         self.last = Some(*game);
@@ -106,7 +113,8 @@ impl Story {
 
     /// Keeps a turn; the oldest goes if there are many.
     fn keep(&mut self, turn: PlayedTurn) -> Result<(), AllocError>
-        ensures { self.new.last ≡ self.old.last }
+        ensures last { self.new.last ≡ self.old.last }
+        ensures kept { OnOk result (KeepsTurn self.old turn self.new) }
     {
         if self.turns.len() >= MOST_KEPT {
             self.turns.remove(0);
@@ -189,7 +197,9 @@ fn append_dice(turn: &PlayedTurn, text: &mut Vec<u8>) -> Result<(), AllocError> 
 }
 
 /// Which way he who has rolled goes by the numbers that the user reads: by the user's own his opponent goes up.
-fn way_of(turn: &PlayedTurn, numbers: Numbers) -> Direction {
+fn way_of(turn: &PlayedTurn, numbers: Numbers) -> Direction
+    ensures { result ≡ way_of turn.now.roller numbers (direction_of (game_of turn.now.before)) }
+{
     match (turn.roller, numbers) {
         (Roller::Other, Numbers::TheOwn) => Direction::Up,
         _ => numbers.way(turn.before.direction()),

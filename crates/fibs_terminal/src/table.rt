@@ -113,6 +113,7 @@ impl Table {
     pub fn clear(&mut self, alloc: Global)
         ensures title { self.new.title.items ≡ [] }
         ensures leave { self.new.leave ≡ None }
+        ensures kept { self.new ≡ record self.old { title = self.new.title; leave = None } }
     {
         self.leave = None;
         self.title = Vec::new(alloc);

@@ -1,6 +1,7 @@
 //! The talk of people that a terminal remembers.
-ghost use Rattle.std.specs.Prelude.{◌≡◌, IfOk};
+ghost use Rattle.std.specs.Prelude.{◌≡◌, [], IfOk, OnErr, OnOk};
 ghost use Rattle.fibs_terminal.specs.Asking.{SendsUntaken, tell_line};
+ghost use Rattle.fibs_terminal.specs.KeptLists.{KeepsBytes};
 ghost use Rattle.fibs_terminal.specs.Leaving.{NeverQuits};
 ghost use Rattle.fibs_terminal.specs.Sending.{SendsNoDecision};
 
@@ -28,7 +29,10 @@ pub struct Talk {
 
 impl Talk {
     /// Nobody has spoken.
-    pub fn new(alloc: Global) -> Talk {
+    pub fn new(alloc: Global) -> Talk
+        ensures rows { result.rows.items ≡ [] }
+        ensures speaker { result.speaker.items ≡ [] }
+    {
         Talk {
             rows: Vec::new(alloc),
             speaker: Vec::new(alloc),
@@ -85,7 +89,10 @@ impl Talk {
     /// Keeps a row of talk; the oldest goes if there are many.
     ///
     /// Errors: if memory runs out.
-    pub fn keep(&mut self, alloc: Global, row: &[u8]) -> Result<(), AllocError> {
+    pub fn keep(&mut self, alloc: Global, row: &[u8]) -> Result<(), AllocError>
+        ensures rows { OnOk result (KeepsBytes 20 self.old.rows.items row.now self.new.rows.items) }
+        ensures speaker { self.new.speaker ≡ self.old.speaker }
+    {
         let row = Vec::from_slice(alloc, row)?;
         if self.rows.len() >= MOST_ROWS {
             self.rows.remove(0);
@@ -97,7 +104,11 @@ impl Talk {
     /// A player has spoken to the user.
     ///
     /// Errors: if memory runs out; then nobody has.
-    pub fn hear_speaker(&mut self, name: &[u8]) -> Result<(), AllocError> {
+    pub fn hear_speaker(&mut self, name: &[u8]) -> Result<(), AllocError>
+        ensures speaker { OnOk result (self.new.speaker.items ≡ name.now) }
+        ensures nobody { OnErr result (self.new.speaker.items ≡ []) }
+        ensures rows { self.new.rows ≡ self.old.rows }
+    {
         self.speaker.clear();
         self.speaker.extend_from_slice(name)
     }

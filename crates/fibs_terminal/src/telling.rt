@@ -1,8 +1,19 @@
 //! What a terminal shows of what is reported to it.
-ghost use Rattle.std.specs.Prelude.{◌≡◌};
+ghost use Rattle.std.specs.Prelude.{◌≡◌, ◌≢◌, ◌++◌, IfSome, OnOk, [], codes, false, length, true};
+ghost use Rattle.std.specs.Str.{bytes_eq};
+ghost use Rattle.fibs_commands.specs.TextOf.{text_of};
+ghost use Rattle.fibs_fields.specs.Split.{before};
+ghost use Rattle.fibs_game.specs.declared.refusal.Refusal.TheVariants.{IllegalPlay};
+ghost use Rattle.fibs_advice.specs.Standings.{is_called, is_in_match};
+ghost use Rattle.fibs_terminal.specs.Listed.{after_passed};
+ghost use Rattle.fibs_terminal.specs.Noted.{Loses, NotesPassed, NotesSent, Opens};
+ghost use Rattle.fibs_terminal.specs.Reasons.{of_board, reason_of};
+ghost use Rattle.fibs_terminal.specs.Retold.{on_word, sent_row};
+ghost use Rattle.fibs_terminal.specs.WatchedKept.{passed_watching};
 
 use crate::account::is_free;
 use crate::drawing::Watching;
+use crate::going_on::{fit_from, say_rows};
 use crate::people::ListAsked;
 use crate::screen::{Moment, Screen};
 use fibs_advice::passing::Passing;
@@ -13,7 +24,6 @@ use fibs_fields::split::split;
 use fibs_position::GameBoard;
 use fibs_session::{CommandText, Outstanding, PlainRefusal, Refusal};
 use fibs_wording::environment::Page;
-use fibs_wording::environment::broken::break_at_spaces;
 use fibs_wording::environment::pieces::append_all;
 use fibs_wording::lists::append_row;
 use fibs_wording::reasons::{append_not_sent, append_reason, append_unnoted, refusal_words};
@@ -57,60 +67,105 @@ fn say_no_connection(why: ErrorKind, page: &mut Page<'_>) -> Result<(), AllocErr
     page.say(reason.as_bytes())
 }
 
-/// What is said of a refusal: of a move against the rules which rule it is, and of a decision for which a text of the
-/// server has called, that no board has.
-fn words_of(why: Refusal, rule: &[u8], standing: Standing) -> &[u8] {
-    if why == Refusal::IllegalPlay && !rule.is_empty() {
-        rule
-    } else if why == Refusal::NoBoard && !is_free(standing) {
-        b"The board of your game has not come yet."
-    } else if why == Refusal::NotYours && standing.is_told_by_text() {
-        b"No board shows it yet."
+/// What is said of a refusal.
+#[derive(Clone, Copy)]
+enum Reason {
+    /// The board of the match is still to come.
+    ToCome,
+    /// A text of the server has called for the decision, and no board.
+    Unshown,
+    /// The rule that it breaks.
+    Rule,
+    /// What is said of this refusal.
+    Words(Refusal),
+}
+
+/// What is said if a refusal is of what the board allows.
+fn reason_of_board(why: Refusal, has_rule: bool, standing: Standing) -> Reason
+    ensures { result ≡ of_board why has_rule standing }
+{
+    if is_free(standing) {
+        Reason::Words(Refusal::NoBoard)
+    } else if has_rule {
+        Reason::Rule
     } else {
-        refusal_words(why)
+        Reason::Words(why)
     }
 }
 
-/// Whether a match may begin by a command: then it is said again that the server plays for the user.
-fn begins_match(command: &[u8]) -> bool {
-    let word = split(command, b' ').0;
-    word == b"invite".as_slice() || word == b"join".as_slice()
+/// What is said of a refusal: that the user is in no match; of a decision for which a text of the server has called,
+/// that no board has; of a move or a double against the rules which rule it is.
+fn reason_of(why: Refusal, has_rule: bool, standing: Standing) -> Reason
+    ensures { result ≡ reason_of why has_rule standing }
+{
+    match why {
+        Refusal::NoBoard if !is_free(standing) => Reason::ToCome,
+        Refusal::NotYours if standing.is_told_by_text() => Reason::Unshown,
+        Refusal::NotYours | Refusal::WrongKind | Refusal::IllegalPlay => {
+            reason_of_board(why, has_rule, standing)
+        }
+        _ => Reason::Words(why),
+    }
+}
+
+/// Its words.
+fn words_of(why: Refusal, rule: &[u8], standing: Standing) -> &[u8]
+    ensures { why ≡ IllegalPlay → is_in_match standing ≡ true → length rule.now ≢ 0 → result.now ≡ rule.now }
+{
+    match reason_of(why, !rule.is_empty(), standing) {
+        Reason::ToCome => b"The board of your game has not come yet.",
+        Reason::Unshown => b"No board shows it yet.",
+        Reason::Rule => rule,
+        Reason::Words(why) => refusal_words(why),
+    }
 }
 
 impl<'a> Screen<'a> {
     /// Hears one thing, and makes the text that is written for it.
     pub fn hear(&mut self, said: &Said<'_>, moment: Moment) -> Result<(), AllocError> {
         match said {
-            Said::Opened => self.hear_opened(moment)?,
-            Said::NoConnection(why) => {
-                say_no_connection(*why, &mut self.page)?;
-                self.say_next_try()?;
-            }
             // its board is reported next
             Said::Heard(_, _, Some(_)) => {}
             Said::Heard(line, reading, None) => self.hear_line(line, reading, moment)?,
             Said::Game(game) => self.hear_game(game)?,
-            Said::Confirmed(_) => self.memory.here.situation.hear_confirmed(),
-            Said::Lost(waited) => self.hear_lost(waited, moment)?,
-            Said::Unnoted(why) => {
-                append_unnoted(*why, &mut self.page.text)?;
-                self.page.say(b"\n")?;
+            _ => {
+                let start = self.page.text.len();
+                self.hear_other(said, moment)?;
+                fit_from(start, &mut self.page)?;
             }
-            Said::Player(player) => append_row(player, &mut self.page.text)?,
-            Said::Sent(command) => self.hear_sent(command)?,
-            Said::Passed(line) => self.say_passed(line)?,
-            Said::Refused(why) => self.say_refused(*why)?,
-            Said::NotSent(why) => self.say_not_sent(*why)?,
-            Said::Rolled => {
-                let _decides = self.memory.here.situation.hear_sent(b"roll");
-                self.page.say(b"sent roll, as ordered\n")?;
-            }
-            Said::Ordered => self.page.say(ORDERED)?,
-            Said::Withdrawn => self.page.say(WITHDRAWN)?,
-            Said::Unknown => self.page.say(UNKNOWN)?,
         }
         let game = self.memory.here.table.title.as_slice();
         self.memory.program.title.put(game, &mut self.page)
+    }
+
+    /// Hears one thing of which the terminal's own words tell.
+    fn hear_other(&mut self, said: &Said<'_>, moment: Moment) -> Result<(), AllocError> {
+        match said {
+            Said::Heard(_, _, _) | Said::Game(_) => Ok(()),
+            Said::Opened => self.hear_opened(moment),
+            Said::NoConnection(why) => {
+                say_no_connection(*why, &mut self.page)?;
+                self.say_next_try()
+            }
+            Said::Confirmed(_) => {
+                self.memory.here.situation.hear_confirmed();
+                Ok(())
+            }
+            Said::Lost(waited) => self.hear_lost(waited, moment),
+            Said::Unnoted(why) => append_unnoted(*why, &mut self.page.text),
+            Said::Player(player) => append_row(player, &mut self.page.text),
+            Said::Sent(command) => self.hear_sent(command),
+            Said::Passed(line) => self.say_passed(line),
+            Said::Refused(why) => self.say_refused(*why),
+            Said::NotSent(why) => self.say_not_sent(*why),
+            Said::Rolled => {
+                let _decides = self.memory.here.situation.hear_sent(b"roll");
+                self.page.say(b"sent roll, as ordered\n")
+            }
+            Said::Ordered => self.page.say(ORDERED),
+            Said::Withdrawn => self.page.say(WITHDRAWN),
+            Said::Unknown => self.page.say(UNKNOWN),
+        }
     }
 
     /// Hears a board of the user's game.
@@ -134,19 +189,20 @@ impl<'a> Screen<'a> {
         here.looking.plays = Listing::of_all();
         here.watching = Watching::new();
         here.table.meet(alloc, game.board().opponent().bytes());
-        let start = self.page.text.len();
         let numbers = self.page.settings.numbers;
+        let mut rows = Vec::new(alloc);
         let _hits = here
             .table
             .story
-            .append_hits(alloc, game, numbers, &mut self.page.text)?;
-        break_at_spaces(start, self.page.columns(), &mut self.page.text);
+            .append_hits(alloc, game, numbers, &mut rows)?;
+        say_rows(rows.as_slice(), &mut self.page)?;
         here.table.story.hear_board(alloc, game)?;
         if converses {
             here.table.hear_title(game)?;
         }
         let said = here.said.as_slice();
-        here.table
+        here.advising.is_told = here
+            .table
             .boards
             .show(game, asked, converses, said, above, &mut self.page)?;
         here.said = Vec::new(alloc);
@@ -158,13 +214,13 @@ impl<'a> Screen<'a> {
         if why == PlainRefusal::NotOn {
             self.memory.here.advising.inquired = true;
         }
-        let start = self.page.text.len();
-        append_not_sent(why, &mut self.page.text)?;
-        self.page.end_row(start)
+        append_not_sent(why, &mut self.page.text)
     }
 
     /// A connection was made.
-    fn hear_opened(&mut self, moment: Moment) -> Result<(), AllocError> {
+    fn hear_opened(&mut self, moment: Moment) -> Result<(), AllocError>
+        ensures { Opens self.old.memory moment.passed self.new.memory }
+    {
         let alloc = self.page.alloc;
         self.memory.change_connection(alloc, moment.passed);
         self.memory.program.converses = true;
@@ -173,10 +229,15 @@ impl<'a> Screen<'a> {
     }
 
     /// A command was sent: it is shown in full.
-    fn hear_sent(&mut self, command: &CommandText) -> Result<(), AllocError> {
+    fn hear_sent(&mut self, command: &CommandText) -> Result<(), AllocError>
+        ensures notes { NotesSent self.old.memory (text_of command.now) self.new.memory }
+        ensures says { OnOk result (self.new.page.text.items ≡ self.old.page.text.items ++ sent_row
+            self.old.page.settings self.old.memory.here.direction (codes "sent ") (text_of command.now) []) }
+    {
         let bytes = command.as_bytes();
         self.memory.program.reconnecting.hear_sent(bytes);
         let here = &mut self.memory.here;
+        here.toggles.hear_sent(bytes);
         here.lists_moves = false;
         if here.situation.hear_sent(bytes) {
             here.advising.says_again = true;
@@ -184,14 +245,16 @@ impl<'a> Screen<'a> {
         if bytes == b"who".as_slice() {
             here.list.asked = ListAsked::Everybody;
         }
-        if here.greeting.plays_itself() && begins_match(bytes) {
-            here.advising.says_again = true;
-        }
         self.say_sent(b"sent ", bytes, b"")
     }
 
     /// Says that a line went past the client: as it is, or a decision for which the server has asked.
-    fn say_passed(&mut self, line: &[u8]) -> Result<(), AllocError> {
+    fn say_passed(&mut self, line: &[u8]) -> Result<(), AllocError>
+        ensures notes { NotesPassed self.old.memory line.now self.new.memory }
+        ensures says { OnOk result (IfSome (on_word self.old.memory.here.passing) (λ words.
+            self.new.page.text.items ≡ self.old.page.text.items ++ sent_row
+            self.old.page.settings self.old.memory.here.direction words line.now [])) }
+    {
         self.memory.program.reconnecting.hear_sent(line);
         self.memory.here.advising.says_again = true;
         match self.memory.here.passing {
@@ -202,15 +265,39 @@ impl<'a> Screen<'a> {
     }
 
     /// Says that a decision was sent on the server's word.
-    fn say_on_word(&mut self, how: &[u8], line: &[u8]) -> Result<(), AllocError> {
+    fn say_on_word(&mut self, how: &[u8], line: &[u8]) -> Result<(), AllocError>
+        ensures called { is_called self.new.memory.here.situation.standing ≡ false }
+        ensures memory { self.new.memory ≡ record self.old.memory {
+          here = record self.old.memory.here {
+            situation = self.new.memory.here.situation;
+            lists_moves = false;
+          };
+        } }
+        ensures says { OnOk result (self.new.page.text.items ≡ self.old.page.text.items ++ sent_row
+            self.old.page.settings self.old.memory.here.direction how.now line.now []) }
+    {
         self.memory.here.lists_moves = false;
         self.memory.here.situation.hear_on_word();
         self.say_sent(how, line, b"")
     }
 
     /// Says that a line was sent as it is.
-    fn say_as_it_is(&mut self, line: &[u8]) -> Result<(), AllocError> {
+    fn say_as_it_is(&mut self, line: &[u8]) -> Result<(), AllocError>
+        ensures moves { self.new.memory.here.lists_moves ≡ bytes_eq (before 32 line.now) (codes "oldmoves") }
+        ensures watching { self.new.memory.here.watching ≡ passed_watching line.now self.old.memory.here.watching }
+        ensures list { self.new.memory.here.list.asked ≡ after_passed line.now self.old.memory.here.list.asked }
+        ensures memory { self.new.memory ≡ record self.old.memory {
+          here = record self.old.memory.here {
+            situation = self.new.memory.here.situation;
+            toggles = self.new.memory.here.toggles;
+            watching = self.new.memory.here.watching;
+            list = self.new.memory.here.list;
+            lists_moves = self.new.memory.here.lists_moves;
+          };
+        } }
+    {
         let here = &mut self.memory.here;
+        here.toggles.hear_sent(line);
         here.situation.hear_passed(line);
         here.watching.hear_passed(line);
         here.list.hear_passed(line);
@@ -226,17 +313,16 @@ impl<'a> Screen<'a> {
         self.memory.here.advising.inquired = true;
         let standing = self.memory.here.situation.standing;
         let words = words_of(why, self.memory.here.rule.as_slice(), standing);
-        let start = self.page.text.len();
-        append_reason(words, why.number(), why, &mut self.page.text)?;
-        self.page.end_row(start)
+        let alloc = self.page.alloc;
+        let mut row = Vec::new(alloc);
+        append_reason(words, why.number(), why, &mut row)?;
+        say_rows(row.as_slice(), &mut self.page)
     }
 
     /// The connection is over.
-    fn hear_lost(
-        &mut self,
-        waited: &Option<Outstanding>,
-        moment: Moment,
-    ) -> Result<(), AllocError> {
+    fn hear_lost(&mut self, waited: &Option<Outstanding>, moment: Moment) -> Result<(), AllocError>
+        ensures { OnOk result (Loses self.old.memory self.new.memory) }
+    {
         self.page.ring()?;
         if let Some(asked) = waited {
             let command = asked.command();

@@ -3,13 +3,18 @@
 ghost use Rattle.std.specs.Prelude.{◌≡◌, ◌++◌, OnOk, IfOk, List, ℕ};
 ghost use Rattle.std.specs.Io.KnownBytes.{Appends};
 ghost use Rattle.fibs_connect.specs.Wishes.{wish_value};
+ghost use Rattle.fibs_session.specs.Calls.Standing.{StandsAfter};
+ghost use Rattle.fibs_session.specs.History.Machine.{Talk};
 ghost use Rattle.fibs_terminal.specs.Above.{given_back};
 ghost use Rattle.fibs_terminal.specs.Asking.{AsksInBounds, SendsUntaken, ShownGoesOn};
+ghost use Rattle.fibs_terminal.specs.Beginning.{AsksFirst, KnownGoesOnOrWarns, plays_for};
+ghost use Rattle.fibs_terminal.specs.Fixing.{before_typing};
 ghost use Rattle.fibs_terminal.specs.Grown.{Grown};
-ghost use Rattle.fibs_terminal.specs.Leaving.{KnownGoesOnOrAsks, QuitsOrAsks, TakesLeave, is_match_on};
+ghost use Rattle.fibs_terminal.specs.Leaving.{QuitsOrAsks, TakesLeave, is_match_on};
 ghost use Rattle.fibs_terminal.specs.Resting.{ShowsAdvice};
 ghost use Rattle.fibs_terminal.specs.Sending.{SendsOnWord};
 ghost use Rattle.fibs_terminal.specs.Trying.{GoesOn, ShowsTried, WritesTry};
+ghost use Rattle.fibs_terminal.specs.TypedMoves.{KeepsTyped};
 
 use crate::fixing::FixLine;
 use crate::screen::{Moment, Screen};
@@ -132,6 +137,9 @@ impl<W: Write + Drop, C: Clock + Drop> Words for Terminal<'_, W, C> {
         // in the state of the conversation, by the history.
         ensures advice { OnOk result (ShowsAdvice client.now self.old.screen.page.settings
             self.old.screen.memory (W.contents self.old.out) (W.contents self.new.out)) }
+        // The line of `fix` that is typed next turns off what is on, whoever has turned it on.
+        ensures fixes { OnOk result ((t : Talk) → StandsAfter client.now t → self.new.screen.memory.program.fixing ≡
+            before_typing t self.old.screen.memory.here.toggles self.old.screen.memory.program.fixing) }
     {
         self.screen.page.text.clear();
         let moment = moment_of(&self.clock);
@@ -161,10 +169,15 @@ impl<W: Write + Drop, C: Clock + Drop> Words for Terminal<'_, W, C> {
         ensures asks { IfOk result (λ wish. AsksInBounds line.old.items (wish_value wish line.new.items)) }
         // A command is taken as it is meant by the numbers that the user reads, and never respelled if it is read so: a
         // decision, an order, a line to people. The client answers it, unless the server has asked for that decision.
-        // A `bye` in a match is answered by the terminal, if the line before was another one.
-        ensures known { KnownGoesOnOrAsks client.now self.old.screen.page.settings.numbers
+        // A `bye` in a match is answered by the terminal, if the line before was another one; so is the first line that
+        // begins a match, if the server plays for the user.
+        ensures known { KnownGoesOnOrWarns client.now self.old.screen.page.settings.numbers
             self.old.screen.memory.here.situation.standing self.new.screen.memory.here.table.leave
+            self.old.screen.memory.here.is_warned self.new.screen.memory.here.is_warned
             line.old.items line.new.items result }
+        // If the server plays for the user, he begins no match unless he was asked on this connection: once.
+        ensures warned { IfOk result (λ wish. AsksFirst client.now (plays_for self.old.screen.memory.here)
+            self.old.screen.memory.here.is_warned self.new.screen.memory.here.is_warned line.new.items wish) }
         // A line that shows a move in any other spelling is taken as the play that is meant by the steps which it shows
         // by the numbers that the user reads: what goes on is a line in which the client reads that play by the
         // server's direction.
@@ -186,6 +199,9 @@ impl<W: Write + Drop, C: Clock + Drop> Words for Terminal<'_, W, C> {
         ensures tried { OnOk result (ShowsTried client.now self.old.screen.page.settings
             self.old.screen.memory.here.looking.trial self.new.screen.memory.here.looking.trial
             (W.contents self.old.out) (W.contents self.new.out)) }
+        // What is kept after `try` is the move that was typed, read by the numbers that the user reads.
+        ensures typed { KeepsTyped client.now self.old.screen.page.settings.numbers line.old.items
+            self.new.screen.memory.here.looking.trial result }
         // After `go` the client answers the command of the move that was tried, if that was on the board that is shown.
         ensures went { GoesOn client.now self.old.screen.memory.here.looking.trial line.old.items line.new.items
             result }

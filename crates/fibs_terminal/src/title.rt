@@ -1,6 +1,6 @@
 //! The title of the window in which the terminal is.
-ghost use Rattle.std.specs.Prelude.{OnOk};
-ghost use Rattle.fibs_terminal.specs.TitleWords.{PutsTitle, title_words};
+ghost use Rattle.std.specs.Prelude.{◌≡◌, [], OnOk};
+ghost use Rattle.fibs_terminal.specs.TitleWords.{PutsTitle, put_back, title_words};
 
 use fibs_wording::environment::Page;
 use std::alloc::{AllocError, Global};
@@ -27,7 +27,9 @@ pub struct Title {
 
 impl Title {
     /// It is as it was.
-    pub fn new(alloc: Global) -> Title {
+    pub fn new(alloc: Global) -> Title
+        ensures { result.shown.items ≡ [] }
+    {
         Title {
             shown: Vec::new(alloc),
         }
@@ -68,7 +70,10 @@ impl Title {
     }
 
     /// What puts the old title back; nothing if it is as it was.
-    pub fn put_back(&mut self) -> &'static [u8] {
+    pub fn put_back(&mut self) -> &'static [u8]
+        ensures text { result.now ≡ put_back self.old.shown.items }
+        ensures shown { self.new.shown.items ≡ [] }
+    {
         if self.shown.is_empty() {
             return b"";
         }

@@ -1,19 +1,23 @@
 //! The boards of a terminal, and what it shows of one that comes.
-ghost use Rattle.std.specs.Prelude.{◌≡◌, ◌&&◌, ◌++◌, false, IfOk, IfSome, IsTrue, List, ℕ, None, OnOk, Some};
+ghost use Rattle.std.specs.Prelude.{◌≡◌, ◌&&◌, ◌⊎◌, ◌↔◌, ◌++◌, false, not, true, IfOk, IfSome, IsTrue, List, ℕ, None, OnOk, Option, Some};
 ghost use Rattle.fibs_terminal.specs.Tellings.{has_told};
 ghost use Rattle.fibs_fields.specs.StoredBoard.{fields_of};
 ghost use Rattle.fibs_position.specs.GameOf.{game_of};
+ghost use Rattle.fibs_position.specs.Phases.{phase_of};
 ghost use Rattle.fibs_picture.specs.declared.in_words.told.Told.TheVariants as T;
 ghost use Rattle.fibs_terminal.specs.Above.{StandsOrNot};
-ghost use Rattle.fibs_terminal.specs.Drawings.{is_plain, TellsBoard, told_before};
+ghost use Rattle.fibs_terminal.specs.BoardsKept.{DrawnOrNot, IsBefore, IsDrawn, IsDrawnWhole, SameCheckers, has_moved, is_deciding, is_over, phase_heard, told_of};
+ghost use Rattle.fibs_terminal.specs.Drawings.{Draws, is_plain, TellsBoard, told_before};
 ghost use Rattle.fibs_terminal.specs.Leaving.{shows_end};
 ghost use Rattle.fibs_terminal.specs.Tables.{no_boards, none_drawn};
+ghost use Rattle.fibs_terminal.specs.WatchedKept.{SamePlaces};
 
 use crate::drawing::above::{Above, end_text};
 use crate::drawing::ending::Ending;
 use crate::drawing::outcomes::{append_outcome, ending_of};
 use crate::drawing::picture::{append_marked, arrivals_since};
 use crate::drawing::telling::told_before;
+use crate::going_on::say_rows;
 use crate::leaving::is_match_over;
 use fibs_advice::situation::is_same;
 use fibs_fields::boards::Board;
@@ -53,7 +57,12 @@ impl Drawn {
     }
 
     /// The board that was drawn before this one, or before that one if no checker has moved.
-    fn before(&self, game: &GameBoard) -> Option<GameBoard> {
+    fn before(&self, game: &GameBoard) -> Option<GameBoard>
+        ensures same { IfSome self.now.last (λ last. SameCheckers (game_of last) (game_of game.now) →
+            result ≡ self.now.before) }
+        ensures first { self.now.last ≡ None → result ≡ self.now.before }
+        ensures before { IsBefore self.now (game_of game.now) result }
+    {
         match &self.last {
             Some(last) if is_played(last, game) => Some(*last),
             _ => self.before,
@@ -61,7 +70,11 @@ impl Drawn {
     }
 
     /// The same, and this one was drawn.
-    fn with(&self, game: &GameBoard) -> Drawn {
+    fn with(&self, game: &GameBoard) -> Drawn
+        ensures last { result.last ≡ Some game.now }
+        ensures told { result.told ≡ None }
+        ensures drawn { IsDrawn self.now result game.now None }
+    {
         Drawn {
             last: Some(*game),
             before: self.before(game),
@@ -84,32 +97,48 @@ pub struct Boards {
 }
 
 /// Whether a checker is elsewhere on another board, or the other board is of another opponent.
-pub(crate) fn is_moved(a: &Board, b: &Board) -> bool {
+pub(crate) fn is_moved(a: &Board, b: &Board) -> bool
+    ensures moved { IsTrue result → SamePlaces (fields_of a.now) (fields_of b.now) → ⊥ }
+    ensures same { result ≡ false → SamePlaces (fields_of a.now) (fields_of b.now) }
+{
     for number in FIRST_PLACE..LAST_PLACE + 1 {
         if a.field(number) != b.field(number) {
             return true;
         }
     }
-    a.field(OWN_OFF) != b.field(OWN_OFF)
-        || a.field(OTHER_OFF) != b.field(OTHER_OFF)
-        || a.opponent().bytes() != b.opponent().bytes()
+    if a.field(OWN_OFF) != b.field(OWN_OFF) {
+        return true;
+    }
+    if a.field(OTHER_OFF) != b.field(OTHER_OFF) {
+        return true;
+    }
+    !is_same(a.opponent().bytes(), b.opponent().bytes())
 }
 
 /// The same of boards of the user's game. Servers may have a bar beside the places or not: it follows from the others.
-fn is_played(a: &GameBoard, b: &GameBoard) -> bool {
+fn is_played(a: &GameBoard, b: &GameBoard) -> bool
+    ensures moved { IsTrue result → SameCheckers (game_of a.now) (game_of b.now) → ⊥ }
+    ensures same { result ≡ false → SameCheckers (game_of a.now) (game_of b.now) }
+{
     let (one, other) = (a.position(), b.position());
     for place in 1..25u8 {
         if one.own(place) != other.own(place) || one.other(place) != other.other(place) {
             return true;
         }
     }
-    a.board().field(OWN_OFF) != b.board().field(OWN_OFF)
-        || a.board().field(OTHER_OFF) != b.board().field(OTHER_OFF)
-        || a.board().opponent().bytes() != b.board().opponent().bytes()
+    if a.board().field(OWN_OFF) != b.board().field(OWN_OFF) {
+        return true;
+    }
+    if a.board().field(OTHER_OFF) != b.board().field(OTHER_OFF) {
+        return true;
+    }
+    !is_same(a.board().opponent().bytes(), b.board().opponent().bytes())
 }
 
 /// Whether the player decides in a phase.
-fn is_deciding(phase: Phase) -> bool {
+fn is_deciding(phase: Phase) -> bool
+    ensures { result ≡ is_deciding phase }
+{
     matches!(
         phase,
         Phase::AnswerDouble | Phase::RollOrDouble | Phase::Move
@@ -174,7 +203,9 @@ impl Boards {
     }
 
     /// The phase of the board that came last.
-    pub fn phase(&self) -> Option<Phase> {
+    pub fn phase(&self) -> Option<Phase>
+        ensures { result ≡ phase_heard self.now.heard }
+    {
         match &self.heard {
             None => None,
             Some(heard) => Some(heard.phase()),
@@ -182,7 +213,8 @@ impl Boards {
     }
 
     /// Shows a board of the user's game, for which he may have asked. A text of the server that says the same is not
-    /// said again.
+    /// said again. True if words have told by it what is to be done, to a user who wants to hear nothing twice: the
+    /// board was told, or his roll was.
     pub fn show(
         &mut self,
         game: &GameBoard,
@@ -191,7 +223,14 @@ impl Boards {
         said: &[u8],
         above: &mut Above,
         page: &mut Page<'_>,
-    ) -> Result<(), AllocError> {
+    ) -> Result<bool, AllocError>
+        ensures hears_once { IfOk result (λ told. IsTrue told →
+            (page.old.settings.words && page.old.settings.is_short) ≡ true) }
+        ensures heard { IfOk result (λ told. self.new.heard ≡ Some game.now) }
+        // A board that was asked for is drawn, above or below.
+        ensures asked { asked ≡ true → IfOk result (λ told. self.new.drawn.last ≡ Some game.now) }
+    {
+        let hears_once = page.settings.words && page.settings.is_short;
         let phase = game.phase();
         let (again, was_his) = match &self.heard {
             None => (false, false),
@@ -210,8 +249,9 @@ impl Boards {
             && above.may_change(&page.settings)
             && above.stand_game(game, &self.arrivals_at(game), page)?;
         if !stands {
-            self.show_below(game, asked, is_above, again, said, page)?;
-            return self.keep(game, again, page);
+            let is_whole = self.show_below(game, asked, is_above, again, said, page)?;
+            self.keep(game, again, page)?;
+            return Ok(hears_once && (is_whole || (phase == Phase::Move && !again)));
         }
         let start = page.text.len();
         if !again {
@@ -219,10 +259,12 @@ impl Boards {
         }
         self.drawn = self.drawn.with(game);
         self.keep(game, again, page)?;
-        end_text(start, page)
+        end_text(start, page)?;
+        Ok(false)
     }
 
-    /// Draws a board if it is to be drawn, and says in a row what it is if that is not seen at once.
+    /// Draws a board if it is to be drawn, and says in a row what it is if that is not seen at once. True if it is
+    /// drawn.
     fn show_below(
         &mut self,
         game: &GameBoard,
@@ -231,26 +273,37 @@ impl Boards {
         again: bool,
         said: &[u8],
         page: &mut Page<'_>,
-    ) -> Result<(), AllocError> {
+    ) -> Result<bool, AllocError>
+        ensures whole { IfOk result (λ whole. IsTrue whole ↔ ((asked ≡ true)
+            ⊎ IsDrawnWhole self.old.drawn.last (game_of game.now) (is_above && (not page.old.settings.words
+            && has_moved self.old.heard (phase_of (game_of game.now)))))) }
+        ensures drawn { IfOk result (λ whole. DrawnOrNot whole self.old.drawn self.new.drawn game.now
+            (told_of page.old.settings game.now)) }
+        ensures rest { self.new ≡ record self.old { drawn = self.new.drawn } }
+        ensures quiet { again ≡ true → IfOk result (λ whole. whole ≡ false →
+            page.new.text.items ≡ page.old.text.items) }
+    {
         let phase = game.phase();
         let has_moved = is_above && !page.settings.words && self.has_moved(phase);
         let is_whole = asked || self.is_drawn_whole(game, has_moved);
         if is_whole {
             self.draw(game, asked, is_above, page)?;
         }
-        if again || (is_whole && !has_moved) {
-            return Ok(());
+        if !again && (!is_whole || has_moved) {
+            say_board(game.board(), phase, said, page)?;
         }
-        say_board(game.board(), phase, said, page)
+        Ok(is_whole)
     }
 
     /// Keeps the board that has come last. If it is the first that shows the end of the game, the outcome is said.
-    fn keep(
-        &mut self,
-        game: &GameBoard,
-        again: bool,
-        page: &mut Page<'_>,
-    ) -> Result<(), AllocError> {
+    fn keep(&mut self, game: &GameBoard, again: bool, page: &mut Page<'_>) -> Result<(), AllocError>
+        ensures heard { OnOk result (self.new.heard ≡ Some game.now) }
+        ensures rest { self.new ≡ record self.old { heard = self.new.heard; ending = self.new.ending } }
+        ensures again { again ≡ true → (self.new.ending ≡ self.old.ending)
+            × (page.new.text.items ≡ page.old.text.items) }
+        ensures goes_on { again ≡ false → is_over (phase_of (game_of game.now)) ≡ false →
+            (self.new.ending ≡ None) × (page.new.text.items ≡ page.old.text.items) }
+    {
         if !again {
             self.ending = None;
             if game.phase() == Phase::Over {
@@ -274,13 +327,20 @@ impl Boards {
     }
 
     /// Whether a board of this phase shows the user's own move.
-    fn has_moved(&self, phase: Phase) -> bool {
+    fn has_moved(&self, phase: Phase) -> bool
+        ensures { result ≡ has_moved self.now.heard phase }
+    {
         phase == Phase::OpponentActs && self.phase() == Some(Phase::Move)
     }
 
     /// Whether a board is drawn whole though the user has not asked for it: a checker has moved, and there is something
     /// to decide, or the user has moved it, or the game is over.
-    fn is_drawn_whole(&self, game: &GameBoard, has_moved: bool) -> bool {
+    fn is_drawn_whole(&self, game: &GameBoard, has_moved: bool) -> bool
+        ensures first { self.now.drawn.last ≡ None → result ≡ true }
+        ensures same { IfSome self.now.drawn.last (λ last. SameCheckers (game_of last) (game_of game.now) →
+            result ≡ false) }
+        ensures whole { IsTrue result ↔ IsDrawnWhole self.now.drawn.last (game_of game.now) has_moved }
+    {
         let Some(drawn) = &self.drawn.last else {
             return true;
         };
@@ -306,7 +366,13 @@ impl Boards {
     }
 
     /// Takes note that this board was shown before the server has shown it: drawn, if boards are not told in words.
-    pub(crate) fn note_ahead(&mut self, after: &GameBoard, words: bool) {
+    pub(crate) fn note_ahead(&mut self, after: &GameBoard, words: bool)
+        ensures ahead { self.new.ahead ≡ Some after.now }
+        ensures told { words ≡ true → self.new.drawn ≡ self.old.drawn }
+        ensures drawn { words ≡ false → self.new.drawn.last ≡ Some after.now }
+        ensures heard { self.new.heard ≡ self.old.heard }
+        ensures ending { self.new.ending ≡ self.old.ending }
+    {
         self.ahead = Some(*after);
         if !words {
             self.drawn = self.drawn.with(after);
@@ -325,6 +391,7 @@ impl Boards {
             × (page.new.text.items ≡ page.old.text.items ++ t)) }
         ensures kept { OnOk result
             (self.new.drawn.told ≡ Some (T.Game game.now page.old.settings.numbers)) }
+        ensures rest { self.new ≡ record self.old { drawn = record self.old.drawn { told = self.new.drawn.told } } }
     {
         let told = Told::Game(*game, page.settings.numbers);
         let before = told_before(&page.settings, asked, self.drawn.told);
@@ -341,7 +408,17 @@ impl Boards {
         asked: bool,
         is_above: bool,
         page: &mut Page<'_>,
-    ) -> Result<(), AllocError> {
+    ) -> Result<(), AllocError>
+        ensures drawn { page.old.settings.words ≡ false → OnOk result ((t : List ℕ)
+            × Draws page.old.settings false (is_plain page.old.settings && not is_above) (game_of game.now) t
+            × (page.new.text.items ≡ page.old.text.items ++ t)) }
+        ensures told { page.old.settings.words ≡ true → OnOk result ((t : List ℕ) × TellsBoard page.old.settings
+            (told_before page.old.settings asked self.old.drawn.told) (game_of game.now) t
+            × (page.new.text.items ≡ page.old.text.items ++ t)) }
+        ensures noted { OnOk result (IsDrawn self.old.drawn self.new.drawn game.now
+            (told_of page.old.settings game.now)) }
+        ensures rest { self.new ≡ record self.old { drawn = self.new.drawn } }
+    {
         if let Some(drawn) = &self.drawn.last {
             if is_played(drawn, game) {
                 self.drawn.before = Some(*drawn);
@@ -368,14 +445,18 @@ impl Boards {
     }
 
     /// Says how a game ended, by the board of its end.
-    fn say_outcome(&mut self, board: &Board, page: &mut Page<'_>) -> Result<(), AllocError> {
+    fn say_outcome(&mut self, board: &Board, page: &mut Page<'_>) -> Result<(), AllocError>
+        ensures { self.new ≡ record self.old { ending = self.new.ending } }
+    {
         let before = match &self.heard {
             None => None,
             Some(before) => Some(before.board()),
         };
-        append_outcome(before, board, &mut page.text)?;
+        let alloc = page.alloc;
+        let mut row = Vec::new(alloc);
+        append_outcome(before, board, &mut row)?;
         self.ending = ending_of(before, board);
-        page.say(b"\n")
+        say_rows(row.as_slice(), page)
     }
 }
 
@@ -392,7 +473,7 @@ fn say_board(
     if row.is_empty() || row.as_slice() == said {
         return Ok(());
     }
-    page.say_all(&[row.as_slice(), b"\n"])
+    say_rows(row.as_slice(), page)
 }
 
 /// Appends in a row what a board is that is not drawn.

@@ -34,7 +34,7 @@ fn append_winner(ending: &Ending, opponent: &[u8], text: &mut Vec<u8>) -> Result
 }
 
 /// Appends points.
-fn append_points(points: u32, text: &mut Vec<u8>) -> Result<(), AllocError>
+pub fn append_points(points: u32, text: &mut Vec<u8>) -> Result<(), AllocError>
     ensures { OnOk result (text.new.items ≡ text.old.items ++ points_words points) }
 {
     append_number(points, text)?;
@@ -93,7 +93,7 @@ fn append_lost(lost: u32, text: &mut Vec<u8>) -> Result<(), AllocError>
 
 /// Appends what follows the length of a match.
 #[tactic(auto, unfolding(crate::specs::Endings::match_label))]
-fn append_match_label(text: &mut Vec<u8>) -> Result<(), AllocError>
+pub fn append_match_label(text: &mut Vec<u8>) -> Result<(), AllocError>
     ensures { OnOk result (text.new.items ≡ text.old.items ++ match_label) }
 {
     text.extend_from_slice(b" point match ")

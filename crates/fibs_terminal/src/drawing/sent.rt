@@ -14,7 +14,7 @@ use fibs_wording::environment::Settings;
 use std::alloc::{AllocError, Global};
 
 /// What is said below the board, or in place of it if boards are told in words.
-const NOT_CONFIRMED: &[u8] = b"Sent, and not confirmed by the server yet.\n";
+const NOT_CONFIRMED: &[u8] = b"Sent, not confirmed by the server yet.\n";
 
 /// The move that was sent and that no board has confirmed, with the board to which it leads; None if there is none.
 fn sent_move(client: &Client) -> Option<Trial>

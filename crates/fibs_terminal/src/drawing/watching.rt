@@ -1,15 +1,19 @@
 //! What a terminal shows of a game that the user watches.
-ghost use Rattle.std.specs.Prelude.{◌≡◌, ◌++◌, List, ℕ, OnOk, Some, true};
+ghost use Rattle.std.specs.Prelude.{◌≡◌, ◌⊎◌, ◌↔◌, ◌++◌, IsTrue, List, ℕ, None, OnOk, Some, false, true};
+ghost use Rattle.std.specs.Option.{option_copied};
+ghost use Rattle.fibs_fields.specs.StoredBoard.{fields_of};
 ghost use Rattle.fibs_position.specs.WatchedOf.{watched_of};
 ghost use Rattle.fibs_picture.specs.declared.in_words.told.Told.TheVariants as T;
 ghost use Rattle.fibs_terminal.specs.Boxes.{begun_watching, nothing_watched};
-ghost use Rattle.fibs_terminal.specs.Drawings.{told_before};
+ghost use Rattle.fibs_terminal.specs.Drawings.{Draws, told_before};
 ghost use Rattle.fibs_terminal.specs.WatchedDrawings.{TellsWatched};
+ghost use Rattle.fibs_terminal.specs.WatchedKept.{IsDrawnWatched, IsSamePair, StaysDrawn, after_asking, drawn_watching, is_wanted, is_watched, passed_watching};
 
 use crate::drawing::above::{Above, end_text};
 use crate::drawing::boards::{append_dice, is_moved};
 use crate::drawing::telling::told_before;
 use crate::drawing::watched::append_watched;
+use crate::going_on::{fit_from, say_rows};
 use fibs_fields::boards::Board;
 use fibs_fields::boards::fields::{
     COLOUR, FIRST_DIE, OTHER_FIRST_DIE, OTHER_SECOND_DIE, SECOND_DIE, TURN, WAS_DOUBLED,
@@ -58,7 +62,9 @@ fn narrow_name(name: &[u8]) -> &[u8] {
 }
 
 /// Whether two boards are of the same players, seen from the same side.
-fn is_same_pair(a: &Board, b: &Board) -> bool {
+fn is_same_pair(a: &Board, b: &Board) -> bool
+    ensures { IsTrue result ↔ IsSamePair (fields_of a.now) (fields_of b.now) }
+{
     a.player().bytes() == b.player().bytes() && a.opponent().bytes() == b.opponent().bytes()
 }
 
@@ -89,12 +95,16 @@ impl Watching {
     }
 
     /// Whether a board is to be asked for.
-    pub fn wants_board(&self) -> bool {
+    pub fn wants_board(&self) -> bool
+        ensures { result ≡ is_wanted self.now.wanted }
+    {
         self.wanted == Wanted::Board
     }
 
     /// Says here that a board is to be asked for, once, if one is.
-    pub fn ask_by(&mut self, asks_board: Option<&Cell<bool>>) {
+    pub fn ask_by(&mut self, asks_board: Option<&Cell<bool>>)
+        ensures { self.new ≡ record self.old { wanted = after_asking self.old.wanted } }
+    {
         if self.wants_board() {
             self.wanted = Wanted::Nothing;
             if let Some(asks_board) = asks_board {
@@ -104,12 +114,16 @@ impl Watching {
     }
 
     /// The board that came last.
-    pub fn board(&self) -> Option<&WatchedBoard> {
+    pub fn board(&self) -> Option<&WatchedBoard>
+        ensures { option_copied result ≡ self.now.heard }
+    {
         self.heard.as_ref()
     }
 
     /// The user has sent a line as it is.
-    pub fn hear_passed(&mut self, line: &[u8]) {
+    pub fn hear_passed(&mut self, line: &[u8])
+        ensures { self.new ≡ passed_watching line.now self.old }
+    {
         if line == b"unwatch".as_slice() {
             self.is_ending = true;
         }
@@ -119,7 +133,9 @@ impl Watching {
     }
 
     /// Whether a player is one of those who are watched.
-    pub fn is_of(&self, name: &[u8]) -> bool {
+    pub fn is_of(&self, name: &[u8]) -> bool
+        ensures { result ≡ is_watched name.now self.now.heard }
+    {
         match &self.heard {
             None => false,
             Some(heard) => {
@@ -139,7 +155,19 @@ impl Watching {
         said: &[u8],
         above: &mut Above,
         page: &mut Page<'_>,
-    ) -> Result<(), AllocError> {
+    ) -> Result<(), AllocError>
+        ensures heard { OnOk result (self.new.heard ≡ Some watched.now) }
+        ensures wanted { OnOk result (self.new.wanted ≡ Wanted.Nothing) }
+        ensures ending { self.new.is_ending ≡ self.old.is_ending }
+        ensures asked { asked ≡ true → OnOk result (self.new.drawn ≡ Some watched.now) }
+        ensures whole { IsDrawnWatched self.old.drawn (watched_of watched.now) →
+            OnOk result (self.new.drawn ≡ Some watched.now) }
+        // Any other one is drawn only if it stands above.
+        ensures drawn { OnOk result (StaysDrawn self.old self.new ⊎ (self.new.drawn ≡ Some watched.now)) }
+        ensures stays { asked ≡ false → converses ≡ false →
+            (IsDrawnWatched self.old.drawn (watched_of watched.now) → ⊥) →
+            OnOk result (StaysDrawn self.old self.new) }
+    {
         let board = watched.board();
         let (again, is_new) = match &self.heard {
             None => (false, true),
@@ -175,7 +203,9 @@ impl Watching {
     }
 
     /// A board was drawn.
-    fn note_drawn(&mut self, watched: &WatchedBoard) {
+    fn note_drawn(&mut self, watched: &WatchedBoard)
+        ensures { self.new ≡ record self.old { drawn = Some watched.now; told = None } }
+    {
         self.drawn = Some(*watched);
         self.told = None;
     }
@@ -192,6 +222,7 @@ impl Watching {
             (told_before page.old.settings whole self.old.told) (watched_of watched.now) t
             × (page.new.text.items ≡ page.old.text.items ++ t)) }
         ensures kept { OnOk result (self.new.told ≡ Some (T.Watched watched.now page.old.settings.numbers)) }
+        ensures rest { self.new ≡ record self.old { told = self.new.told } }
     {
         let told = Told::Watched(*watched, page.settings.numbers);
         let before = told_before(&page.settings, whole, self.told);
@@ -207,7 +238,16 @@ impl Watching {
         watched: &WatchedBoard,
         whole: bool,
         page: &mut Page<'_>,
-    ) -> Result<(), AllocError> {
+    ) -> Result<(), AllocError>
+        ensures drawn { page.old.settings.words ≡ false → OnOk result ((t : List ℕ)
+            × Draws page.old.settings true false (watched_of watched.now) t
+            × (page.new.text.items ≡ page.old.text.items ++ t)) }
+        ensures told { page.old.settings.words ≡ true → OnOk result ((t : List ℕ) × TellsWatched page.old.settings
+            (told_before page.old.settings whole self.old.told) (watched_of watched.now) t
+            × (page.new.text.items ≡ page.old.text.items ++ t)) }
+        ensures noted { OnOk result (self.new ≡ drawn_watching page.old.settings watched.now self.old) }
+        ensures rest { self.new ≡ record self.old { drawn = Some watched.now; told = self.new.told } }
+    {
         if page.settings.words {
             self.drawn = Some(*watched);
             return self.tell(watched, whole, page);
@@ -218,7 +258,9 @@ impl Watching {
     }
 
     /// Whether a board is drawn whole: a checker has moved, or the players are others.
-    fn is_drawn_whole(&self, board: &Board) -> bool {
+    fn is_drawn_whole(&self, board: &Board) -> bool
+        ensures { IsTrue result ↔ IsDrawnWatched self.now.drawn (fields_of board.now) }
+    {
         match &self.drawn {
             None => true,
             Some(drawn) => is_moved(drawn.board(), board) || !is_same_pair(drawn.board(), board),
@@ -227,6 +269,7 @@ impl Watching {
 
     /// Says whom the user watches, and what ends it; nothing if he watches nobody.
     pub fn say_hint(&self, page: &mut Page<'_>) -> Result<(), AllocError> {
+        let start = page.text.len();
         match &self.heard {
             Some(heard) if !self.is_ending => page.say_all(&[
                 b"You watch ",
@@ -234,9 +277,10 @@ impl Watching {
                 b" and ",
                 narrow_name(heard.board().opponent().bytes()),
                 b": unwatch ends it.\n",
-            ]),
-            _ => Ok(()),
+            ])?,
+            _ => return Ok(()),
         }
+        fit_from(start, page)
     }
 }
 
@@ -248,7 +292,7 @@ fn say_board(board: &Board, said: &[u8], page: &mut Page<'_>) -> Result<(), Allo
     if row.as_slice() == said {
         return Ok(());
     }
-    page.say_all(&[row.as_slice(), b"\n"])
+    say_rows(row.as_slice(), page)
 }
 
 /// Appends in a row what a board is: the dice that are shown, else who is to act.

@@ -2,6 +2,7 @@
 ghost use Rattle.std.specs.Prelude.{◌≡◌, IfSome};
 ghost use Rattle.fibs_fields.specs.StoredBoard.{fields_of};
 ghost use Rattle.fibs_position.specs.GameOf.{game_of};
+ghost use Rattle.fibs_terminal.specs.StoryKept.{roller_on};
 ghost use Rattle.fibs_terminal.specs.Turns.{begins_anew, same_match, same_scores, seen_by};
 
 use fibs_advice::hits::Roller;
@@ -20,7 +21,9 @@ pub(crate) struct PlayedTurn {
 }
 
 /// Who has rolled and not played on a board.
-fn roller_of(game: &GameBoard) -> Option<Roller> {
+fn roller_of(game: &GameBoard) -> Option<Roller>
+    ensures { result ≡ roller_on (game_of game.now) }
+{
     match game.phase() {
         Phase::Move | Phase::Passing => Some(Roller::Own),
         Phase::OpponentActs => {

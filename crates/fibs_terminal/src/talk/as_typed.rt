@@ -1,11 +1,13 @@
 //! Talk whose letters are not all of ASCII: it goes to the server as it was typed.
 ghost use Rattle.std.specs.Prelude.{◌≡◌, None, false, IsTrue};
-ghost use Rattle.std.specs.List.{list_all};
+ghost use Rattle.std.specs.Char.{is_control};
+ghost use Rattle.std.specs.List.{list_all, list_any};
+ghost use Rattle.std.specs.Str.{chars};
 ghost use Rattle.fibs_commands.specs.PlainOf.{plain_value};
 ghost use Rattle.fibs_session.specs.Calls.Standing.{StandsAfter};
 ghost use Rattle.fibs_session.specs.History.Machine.{Talk};
 ghost use Rattle.fibs_session.specs.Typing.{decided, typed_now, would_take};
-ghost use Rattle.fibs_terminal.specs.Talking.{GoesAsTyped, IsRefusedTalk, is_said_byte, is_talk, refuses_letters};
+ghost use Rattle.fibs_terminal.specs.Talking.{GoesAsTyped, IsRefusedTalk, has_control, is_said_byte, is_talk, is_upper_control, refuses_letters};
 
 use fibs_commands::{Plain, PlainFault};
 use fibs_session::typed::typing::{Typed, read_typed};
@@ -25,11 +27,35 @@ fn are_said_bytes(line: &[u8]) -> bool
     line.iter().all(is_said_byte)
 }
 
+/// Whether a byte is a control beyond ASCII, where a byte is a character.
+fn is_upper_control(byte: &u8) -> bool
+    ensures { result ≡ is_upper_control byte.now }
+{
+    *byte >= 128 && *byte < 160
+}
+
+/// Whether a line of such bytes has one.
+fn has_upper_control(line: &[u8]) -> bool
+    ensures { result ≡ list_any is_upper_control line.now }
+{
+    line.iter().any(is_upper_control)
+}
+
+/// Whether a text has a control character.
+fn has_control_char(text: &str) -> bool
+    ensures { result ≡ list_any is_control (chars text.now) }
+{
+    text.chars().any(|c| c.is_control())
+}
+
 /// Whether a line has a control character beyond ASCII, as UTF-8 or as Latin-1.
-fn has_control(line: &[u8]) -> bool {
+#[tactic(auto, using(crate::proofs::TalkingLemmas::text_controls, crate::proofs::TalkingLemmas::byte_controls))]
+fn has_control(line: &[u8]) -> bool
+    ensures { result ≡ has_control line.now }
+{
     match str::from_utf8(line) {
-        Ok(text) => text.chars().any(|c| c.is_control()),
-        Err(_) => line.iter().any(|byte| *byte >= 128 && *byte < 160),
+        Ok(text) => has_control_char(text),
+        Err(_) => has_upper_control(line),
     }
 }
 

@@ -1,6 +1,8 @@
 use Rattle.fibs_terminal.proofs.SentLemmas.{rests}
 use Rattle.fibs_terminal.proofs.screen.Screen.rest.Goals as goal
 
-pub returns : goal.returns
-returns c = rests c.args.client.now c.args.self.now.page.settings c.args.self.now.memory _ _ _ _ c.in_ok-advice.advice
-    c.in_ok-show_sent_below.ensures c.in_ok-say_rematch.ensures c.in_ok-advice.ensures.advises c.in_ok-say.ensures
+pub returns-clause-rests : goal.returns-clause-rests
+returns-clause-rests c =
+    rests c.args.client.now c.args.self.now.page.settings c.args.self.now.memory c.columns-columns.result _ _ _ _
+    c.in_ok-advice.advice c.columns-columns.ensures c.in_ok-show_sent_below.ensures c.in_ok-say_rematch.ensures
+    c.in_ok-advice.ensures.advises c.in_ok-say.ensures.row

@@ -1,34 +1,21 @@
-use Rattle.fibs_terminal.proofs.LeavingLemmas.{asked_leaves, known_asked, shown_asked, went_asked}
+use Rattle.std.proofs.Common.{◌∙◌, sym}
+use Rattle.fibs_terminal.specs.Leaving.{is_match_on}
+use Rattle.fibs_terminal.proofs.BeginningLemmas.{asked_now, leave_warned, shown_warned}
 use Rattle.fibs_terminal.proofs.screen.Screen.wish.Goals as goal
 
-pub returns-in_ok-say_leave-in-Some-clause-known : goal.returns-in_ok-say_leave-in-Some-clause-known
-returns-in_ok-say_leave-in-Some-clause-known c =
-    let after = c.wish_line.new.line.items in
-    let wish = c.in_ok-wish.wish in
-    let word = c.in-Some.leave in
-    known_asked c.args.client.now c.args.self.now.page.settings.numbers
-    c.args.self.now.memory.here.situation.standing c.args.line.now.items after wish word
-    (asked_leaves c.is_match_on-is_on.result c.args.self.now.memory.here.table.leave c.leave_of.result
-    c.as_slice.result.now after wish word c.leave_of.ensures c.as_slice.ensures.value c.in-Some.ensures)
-    c.in_ok-wish.ensures.asks c.in_ok-wish.ensures.known
+pub returns-then-is_asked_now-clause-leave : goal.returns-then-is_asked_now-clause-leave
+returns-then-is_asked_now-clause-leave c =
+    let asked = asked_now c.plays_for-plays.result c.args.self.now.memory.here.is_warned c.in_ok-wish.wish
+    c.begins-begins.result (sym c.is_asked_now.ensures ∙ c.if-is_asked_now.true) in
+    leave_warned (is_match_on c.args.self.now.memory) c.args.self.now.memory.here.table.leave
+    c.wish_leaving.new.self.memory.here.table.leave c.wish_leaving.new.line.items c.in_ok-wish.wish asked.says
+    c.in_ok-wish.ensures.leave
 
-pub returns-in_ok-say_leave-in-Some-clause-went : goal.returns-in_ok-say_leave-in-Some-clause-went
-returns-in_ok-say_leave-in-Some-clause-went c =
-    let after = c.wish_line.new.line.items in
-    let wish = c.in_ok-wish.wish in
-    let word = c.in-Some.leave in
-    went_asked c.args.client.now c.args.self.now.memory.here.looking.trial c.args.line.now.items after wish word
-    (asked_leaves c.is_match_on-is_on.result c.args.self.now.memory.here.table.leave c.leave_of.result
-    c.as_slice.result.now after wish word c.leave_of.ensures c.as_slice.ensures.value c.in-Some.ensures)
-    c.in_ok-wish.ensures.went
-
-pub returns-in_ok-say_leave-in-Some-clause-shows : goal.returns-in_ok-say_leave-in-Some-clause-shows
-returns-in_ok-say_leave-in-Some-clause-shows c =
-    let after = c.wish_line.new.line.items in
-    let wish = c.in_ok-wish.wish in
-    let word = c.in-Some.leave in
-    shown_asked c.args.client.now c.args.self.now.page.settings.numbers
-    c.args.self.now.memory.here.situation.standing c.args.line.now.items after wish word
-    (asked_leaves c.is_match_on-is_on.result c.args.self.now.memory.here.table.leave c.leave_of.result
-    c.as_slice.result.now after wish word c.leave_of.ensures c.as_slice.ensures.value c.in-Some.ensures)
-    c.in_ok-wish.ensures.shows
+pub returns-then-is_asked_now-clause-shows : goal.returns-then-is_asked_now-clause-shows
+returns-then-is_asked_now-clause-shows c =
+    let asked = asked_now c.plays_for-plays.result c.args.self.now.memory.here.is_warned c.in_ok-wish.wish
+    c.begins-begins.result (sym c.is_asked_now.ensures ∙ c.if-is_asked_now.true) in
+    shown_warned c.args.client.now c.args.self.now.page.settings.numbers
+    c.args.self.now.memory.here.situation.standing c.args.line.now.items c.as_slice.result.now
+    c.wish_leaving.new.line.items c.in_ok-wish.wish c.begins-begins.result c.begins-begins.ensures
+    c.as_slice.ensures.value asked.begins_now c.in_ok-wish.ensures.shows

@@ -87,3 +87,14 @@ returns-clause-shows c =
     c.args.self.now.memory.here.situation.standing c.as_slice-2.result.now c.args.line.now.items _
     (option_map hops_of c.in_ok-play.field-0) _ c.as_slice-2.ensures.value c.in_ok-play.ensures
     (ap (option_map hops_of) c.in_default.is)
+
+pub returns-then-is_command_by-clause-typed : goal.returns-then-is_command_by-clause-typed
+returns-then-is_command_by-clause-typed c is_try = absurd (never_known c.args.self.now.page.settings.numbers is_try.talk
+    c.args.line.now.items c.as_slice.result.now c.as_slice.ensures.value
+    (c.if-is_command_by.ensures is_try.talk is_try.stands) is_try.unknown)
+
+pub returns-in-Some-clause-typed : goal.returns-in-Some-clause-typed
+returns-in-Some-clause-typed c is_try = absurd (never_try c.args.self.now.page.settings.numbers is_try.talk
+    c.as_slice-2.result.now c.args.line.now.items (option_map hops_of c.in_ok-play.field-0) (hops_of c.in-Some.play)
+    c.as_slice-2.ensures.value (c.in_ok-play.ensures is_try.talk is_try.stands)
+    (ap (option_map hops_of) c.in-Some.is) is_try.word)

@@ -1,0 +1,34 @@
+use Rattle.fibs_terminal.proofs.LeavingLemmas.{asked_leaves, known_asked, shown_asked, went_asked}
+use Rattle.fibs_terminal.proofs.screen.Screen.wish_leaving.Goals as goal
+
+pub returns-in_ok-say_leave-in-Some-clause-known : goal.returns-in_ok-say_leave-in-Some-clause-known
+returns-in_ok-say_leave-in-Some-clause-known c =
+    let after = c.wish_line.new.line.items in
+    let wish = c.in_ok-wish.wish in
+    let word = c.in-Some.leave in
+    known_asked c.args.client.now c.args.self.now.page.settings.numbers
+    c.args.self.now.memory.here.situation.standing c.args.line.now.items after wish word
+    (asked_leaves c.is_match_on-is_on.result c.args.self.now.memory.here.table.leave c.leave_of.result
+    c.as_slice.result.now after wish word c.leave_of.ensures c.as_slice.ensures.value c.in-Some.ensures)
+    c.in_ok-wish.ensures.asks c.in_ok-wish.ensures.known
+
+pub returns-in_ok-say_leave-in-Some-clause-went : goal.returns-in_ok-say_leave-in-Some-clause-went
+returns-in_ok-say_leave-in-Some-clause-went c =
+    let after = c.wish_line.new.line.items in
+    let wish = c.in_ok-wish.wish in
+    let word = c.in-Some.leave in
+    went_asked c.args.client.now c.args.self.now.memory.here.looking.trial c.args.line.now.items after wish word
+    (asked_leaves c.is_match_on-is_on.result c.args.self.now.memory.here.table.leave c.leave_of.result
+    c.as_slice.result.now after wish word c.leave_of.ensures c.as_slice.ensures.value c.in-Some.ensures)
+    c.in_ok-wish.ensures.went
+
+pub returns-in_ok-say_leave-in-Some-clause-shows : goal.returns-in_ok-say_leave-in-Some-clause-shows
+returns-in_ok-say_leave-in-Some-clause-shows c =
+    let after = c.wish_line.new.line.items in
+    let wish = c.in_ok-wish.wish in
+    let word = c.in-Some.leave in
+    shown_asked c.args.client.now c.args.self.now.page.settings.numbers
+    c.args.self.now.memory.here.situation.standing c.args.line.now.items after wish word
+    (asked_leaves c.is_match_on-is_on.result c.args.self.now.memory.here.table.leave c.leave_of.result
+    c.as_slice.result.now after wish word c.leave_of.ensures c.as_slice.ensures.value c.in-Some.ensures)
+    c.in_ok-wish.ensures.shows
