@@ -114,9 +114,13 @@ served_objects request r a b is shown kept = subst (λ q. Served q r a b) (sym i
 
 -- the clauses of `show_events` in one
 pub showed_events : (r : Result ℕ EngineFault) (a b : Streams) → IfOk r (λ status. status ≡ 0)
-    → OnOk r (eventful.WroteAll a.input b.input a.out b.out) → OnOk r (IsAtEnd b.input) → ShowedEvents r a b
-showed_events (Ok status) a b is whole end = (is, whole, end)
-showed_events (Err why) a b is whole end = tt
+    → OnOk r (eventful.WroteAll a.input b.input a.out b.out) → OnOk r (IsAtEnd b.input)
+    → (IsErrOf r Device → eventful.WroteRead a.input b.input a.out b.out
+    ⊎ eventful.WroteFront a.input b.input a.out b.out)
+    → (IsErrOf r Memory → eventful.WroteLines a.input b.input a.out b.out) → ShowedEvents r a b
+showed_events (Ok status) a b is whole end device memory = (is, whole, end)
+showed_events (Err Device) a b is whole end device memory = device refl
+showed_events (Err Memory) a b is whole end device memory = memory refl
 
 -- a request to show events is served so
 pub served_events : (request : Request) (r : Result ℕ EngineFault) (a b : Streams) → request ≡ ShowEvents

@@ -48,11 +48,13 @@ ShowedObjects (Err fault.Device) a b =
     objects.WroteRead a.input b.input a.out b.out ⊎ objects.WroteFront a.input b.input a.out b.out
 ShowedObjects (Err fault.Memory) a b = objects.WroteLines a.input b.input a.out b.out
 
--- the engine `show --events` answered so; after a fault nothing is said of what was printed
+-- the engine `show --events` answered so
 abbrev pub ShowedEvents : Result ℕ EngineFault → Streams → Streams → Type 0
 ShowedEvents (Ok status) a b =
     (status ≡ 0) × eventful.WroteAll a.input b.input a.out b.out × IsAtEnd b.input
-ShowedEvents (Err why) a b = Unit {0}
+ShowedEvents (Err fault.Device) a b =
+    eventful.WroteRead a.input b.input a.out b.out ⊎ eventful.WroteFront a.input b.input a.out b.out
+ShowedEvents (Err fault.Memory) a b = eventful.WroteLines a.input b.input a.out b.out
 
 -- the engine `plays` answered so for a good board
 abbrev pub Listed : BoardFields → Result ℕ EngineFault → Streams → Streams → Type 0

@@ -22,7 +22,7 @@ Exit status: 0 done, 2 wrong arguments, 3 refused input,
 4 input, output or a socket of `loop` failed, 5 out of memory";
 
 /// What `--version` says after the program's name. CHANGELOG.md has the same number.
-const VERSION: &str = "0.3.0 (proved with rattle-kit-13)";
+const VERSION: &str = "0.4.0 (proved with rattle-kit-13)";
 
 const SHOW: &str = "Print what each line of the server says";
 
@@ -53,18 +53,19 @@ in words.
 
 With --json one JSON object is printed for each line, also at a terminal:
 
-  {\"kind\":KIND,\"line\":LINE,...}
+  {\"kind\":KIND,\"line\":LINE,...,\"line_number\":NUMBER,\"offset\":COUNT}
 
 KIND is board, message, text, cut or malformed, LINE the line itself, and the
-other members say what it means by name. Each byte that is not printable ASCII
+other members say what it means by name, and last its number, from 1, and how
+many bytes of the input come before it. Each byte that is not printable ASCII
 is the character of its number in LINE. The last object may be
 
-  {\"kind\":\"unfinished\",\"bytes\":COUNT}
+  {\"kind\":\"unfinished\",\"line\":BYTES,\"bytes\":COUNT,...}
 
 With --events these objects are printed too, and after the object of a line one
 for each thing that has happened by it, as boards and texts say:
 
-  {\"kind\":\"event\",\"event\":EVENT,\"line_number\":LINE,...}
+  {\"kind\":\"event\",\"event\":EVENT,\"line_number\":NUMBER,...}
 
 EVENT is logged_in, joined, rolled, played, doubled, accepted, game_over and so
 on; docs/FORMATS.md lists them. Nothing is told twice for a board or a text that

@@ -35,7 +35,8 @@ returns-in-ShowEvents g c =
     let a : Streams = streams (input c.args.input.now) (out c.args.out.now) err in
     let b : Streams = streams (input c.show_events.new.reader) (out c.show_events.new.writer) err in
     served_events c.args.request c.show_events.result a b c.in-ShowEvents.is
-    (showed_events c.show_events.result a b told.status told.whole told.end) (Keeps-refl err)
+    (showed_events c.show_events.result a b told.status told.whole told.end told.device told.memory)
+    (Keeps-refl err)
 
 pub returns-in-Replay : goal.returns-in-Replay
 returns-in-Replay g c =
