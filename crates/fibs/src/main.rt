@@ -7,7 +7,7 @@ use fibs_cli::arguments::{Answer, Asked};
 use fibs_cli::program;
 use fibs_engine::fault::EngineFault;
 use fibs_engine::standard::take_closed;
-use player::Streams;
+use fibs_engine::streams::Streams;
 use std::env;
 use std::io::ErrorKind;
 use std::process::ExitCode;

@@ -2,12 +2,6 @@
 //! the engines print, to the byte.
 
 mod devices;
-mod input;
-pub(crate) mod ordering;
 mod playing;
-mod refusing;
-pub mod showing;
-mod streams;
 
 pub use devices::run;
-pub use streams::Streams;

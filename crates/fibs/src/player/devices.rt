@@ -2,19 +2,19 @@
 //! account.
 
 use crate::player::playing::{play, unless_memory_ran_out};
-use crate::player::showing::show_on;
-use crate::player::streams::Streams;
 use arrayvec::ArrayVec;
 use fibs_cli::arguments::{Answer, Asked, Call, Request};
 use fibs_cli::{program, told_line};
+use fibs_connect::showing::show_on;
 use fibs_connect::waiting::{PollWatch, WatchedNet, first_line};
 use fibs_connect::watch::Unwatched;
-use fibs_engine::attention::Pace;
 use fibs_engine::dial::READ_MILLIS;
 use fibs_engine::fault::EngineFault;
 use fibs_engine::fixed::append_number;
 use fibs_engine::limits::MOST_INPUT_READS;
+use fibs_engine::pacing::Pace;
 use fibs_engine::status::Status;
+use fibs_engine::streams::Streams;
 use fibs_engine::writing::write_bytes;
 use fibs_fields::boards::Board;
 use fibs_fields::fixed::append;

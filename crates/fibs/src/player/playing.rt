@@ -1,23 +1,22 @@
 //! A person plays.
 
-use crate::player::ordering::{Dues, OrderedInput, OrderedServer, OrderedWatch};
 use fibs_cli::arguments::Call;
 use fibs_cli::objects::front::Objects;
 use fibs_connect::typed_line::TypedLine;
 use fibs_connect::typed_lines::TypedLines;
 use fibs_connect::watch::{Patience, Watch};
 use fibs_connect::{answer_lines, converse_on, converse_with};
-use fibs_engine::attention::Pace;
 use fibs_engine::dial::{Dial, Endpoint, TcpDial};
 use fibs_engine::fault::EngineFault;
 use fibs_engine::limits::MOST_INPUT_READS;
 use fibs_engine::logging::{LoggedServer, open};
 use fibs_engine::noting::Noted;
-use fibs_engine::pacing::PacedServer;
+use fibs_engine::pacing::{Pace, PacedServer};
 use fibs_engine::status::Status;
 use fibs_engine::writing::write_bytes;
 use fibs_session::{Login, PlainFault};
 use fibs_terminal::Terminal;
+use fibs_terminal::ordering::{Dues, OrderedInput, OrderedServer, OrderedWatch};
 use fibs_wording::environment::{Clocks, Config, RecordFile, Settings, terminal_settings};
 use fibs_wording::reasons::append_login_fault;
 use std::alloc::Global;
