@@ -3,6 +3,7 @@ pub mod ClientLemmas
 pub mod ManyLinesLemmas
 pub mod PlayerLemmas
 pub mod EventLemmas
+pub mod TurnLemmas
 -- Why what is put into a record is the value.
 pub mod LooseValues
 pub mod HandleValues

@@ -6,6 +6,7 @@ pub mod BoardDoor
 pub mod BoardLineDoor
 pub mod PositionDoor
 pub mod EffectDoor
+pub mod TurnDoor
 pub mod ClientDoor
 pub mod OrderDoor
 pub mod OwnLineDoor

@@ -1,7 +1,8 @@
 //! What lines say has happened, and what bytes say of the login.
 
-ghost use Rattle.std.specs.Prelude.{◌≡◌, List, None, ℕ};
+ghost use Rattle.std.specs.Prelude.{◌≡◌, None};
 ghost use Rattle.fibs_messages.specs.Line.{reading_of, reading_value};
+ghost use Rattle.fibs_events.specs.Known.{opponent_of};
 ghost use Rattle.fibs_events.specs.Asking.{not_asked};
 ghost use Rattle.fibs_c.specs.EventsDoor.{AreBytesHeard, HearsBytes, HearsOrNot, IsLineHeard, IsNewEvents, IsOpened, IsOpponentTold, with_login};
 ghost use Rattle.fibs_c.specs.Records.Texts.{HandsOut};
@@ -116,7 +117,7 @@ pub extern "C" fn fibs_events_open(alloc: Global, events: &mut EventsHandle) -> 
 
 /// Hands out the opponent's name.
 fn hand_out_opponent(listener: &Listener, text: &mut [u8], len: &mut usize) -> u32
-    ensures { (name : List ℕ) × HandsOut name text.old text.new len.new result }
+    ensures { HandsOut (opponent_of listener.now.lines) text.old text.new len.new result }
 {
     hand_out(listener.lines.opponent(), text, len)
 }

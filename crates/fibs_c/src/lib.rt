@@ -35,6 +35,7 @@ mod positions;
 mod readings;
 mod records;
 mod saved;
+mod turn;
 mod words;
 
 pub use feeding::Heard;
@@ -42,3 +43,4 @@ pub use lines::FedLine;
 pub use many_lines::{Told, ToldLine};
 pub use player::{PartRecord, PlayerRecord};
 pub use saved::SavedRecord;
+pub use turn::NextRecord;

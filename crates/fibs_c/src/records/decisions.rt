@@ -91,7 +91,7 @@ pub fn decision_of(given: &DecisionRecord) -> Option<Decision>
 }
 
 /// A step as C has it.
-fn step_record(step: &Step) -> PlayStep
+pub fn step_record(step: &Step) -> PlayStep
     ensures { hop_in result ≡ hop_of step.now }
 {
     PlayStep {

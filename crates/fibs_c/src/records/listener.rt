@@ -1,6 +1,7 @@
 //! What is heard of a stream, as the events of its lines and the refusal of its login.
 
-ghost use Rattle.std.specs.Prelude.{◌≡◌};
+ghost use Rattle.std.specs.Prelude.{◌≡◌, [], None};
+ghost use Rattle.fibs_events.specs.Known.{known_of, opponent_of};
 ghost use Rattle.fibs_events.specs.Asking.{not_asked};
 
 use fibs_events::Events;
@@ -19,7 +20,9 @@ pub struct Listener {
 impl Listener {
     /// One that has heard nothing.
     pub fn new() -> Listener
-        ensures { result.login ≡ not_asked }
+        ensures login { result.login ≡ not_asked }
+        ensures known { known_of result.lines ≡ None }
+        ensures opponent { opponent_of result.lines ≡ [] }
     {
         Listener {
             lines: Events::new(),
