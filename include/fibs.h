@@ -60,8 +60,8 @@
  * - After any other status nothing was changed, and nothing was written but what the comment says.
  * - FIBS_STATUS_SHORT: the room is too short. The call wrote no byte of it. It says how much is needed, but for
  *   fibs_lines_feed and fibs_client_feed, which always need FIBS_MAX_LINE.
- * - FIBS_STATUS_MEMORY: memory ran out. Only `new`, fibs_plays, fibs_words,
- *   fibs_events_hear and fibs_directory_note take memory.
+ * - FIBS_STATUS_MEMORY: memory ran out. Only `new`, fibs_plays, fibs_listed_play, fibs_words, fibs_events_hear and
+ *   fibs_directory_note take memory.
  * - Each function returns, whatever bytes it is given, and reads and writes nothing else. Flags are 0 or 1.
  */
 #ifndef FIBS_H
@@ -78,9 +78,9 @@ extern "C" {
 
 /* The version of this header. While the first number is 0, you have to build your program again when the second one
  * changes; the shared library's name has both. When only the third one changes, faults were mended and nothing else. */
-#define FIBS_VERSION "0.3.0"
+#define FIBS_VERSION "0.4.0"
 #define FIBS_VERSION_MAJOR 0
-#define FIBS_VERSION_MINOR 3
+#define FIBS_VERSION_MINOR 4
 #define FIBS_VERSION_PATCH 0
 
 /* The version of the library, as FIBS_VERSION has it. */
@@ -96,6 +96,7 @@ const char *fibs_version(void);
 #define FIBS_MAX_STATUS_NAME 14  /* bytes of the name of a status */
 #define FIBS_MAX_STEPS 4         /* steps of a move */
 #define FIBS_MAX_PLAYS 3060      /* plays of a board */
+#define FIBS_MAX_NEXT 50         /* steps that may follow in a turn */
 #define FIBS_MAX_PLAYERS 4096    /* players of a directory */
 #define FIBS_MAX_EVENTS 7        /* events of one line */
 
@@ -371,6 +372,23 @@ fibs_status fibs_allows(const char *line, size_t len, const fibs_decision *decis
  * FIBS_MAX_PLAYS; plays has room for count. Those of fibs_phase; MEMORY; SHORT, and *found is set. */
 fibs_status fibs_plays(const char *line, size_t len, fibs_decision *plays, size_t count, size_t *found);
 
+/* The steps that may follow in a turn. */
+typedef struct fibs_next {
+    size_t count;              /* how many there are: none if the move is whole */
+    fibs_step steps[50];       /* from the highest place down, from one place by the smaller die first; those after
+                                  count are zeros */
+} fibs_next;
+
+/* A turn step by step: the steps each of which goes on to a legal move, after those of a decision to move that were
+ * made; with the count 0 none was made yet. NO_DECISION if it is no move; those of fibs_phase; NOT_YOURS, WRONG_KIND,
+ * ILLEGAL_PLAY if no legal move begins with the steps made. */
+fibs_status fibs_next_steps(const char *line, size_t len, const fibs_decision *made, fibs_next *next);
+
+/* The play of fibs_plays that leads to the same board as the steps that were made, which are a legal move.
+ * NO_DECISION if it is no move; those of fibs_phase; NOT_YOURS, WRONG_KIND, ILLEGAL_PLAY if more has to be played;
+ * MEMORY. */
+fibs_status fibs_listed_play(const char *line, size_t len, const fibs_decision *made, fibs_decision *play);
+
 /* The line of the board after the server carried out a decision on the board of a line, at most FIBS_MAX_BOARD bytes;
  * after a move with the checkers moved and hit, and the dice taken away. *printed is its length. A roll throws the dice
  * first and second; for every other decision they are ignored. Of a move nothing is asked but the turn, dice, no double
@@ -549,7 +567,7 @@ enum {
     FIBS_EVENT_MATCH_OVER = 17,           /* who: the winner; length, score */
     FIBS_EVENT_LEFT = 18,                 /* the match was left, and is saved. who has left it */
     FIBS_EVENT_NOT_PLAYING = 19,          /* the user plays in no match */
-    FIBS_EVENT_RATING_CHANGED = 20,       /* who, rating, experience */
+    FIBS_EVENT_RATING_CHANGED = 20,       /* who, rating_hundredths, experience */
     FIBS_EVENT_NOTHING_SAVED = 21,        /* no match was saved. name: with whom */
     FIBS_EVENT_REFUSED = 22,              /* the server has refused a decision: the line says why */
     FIBS_EVENT_LOGIN_REFUSED = 23         /* the server asks for the login once more: fibs_events_hear_bytes */
@@ -576,7 +594,7 @@ typedef struct fibs_event {
     uint32_t points;           /* offered, or won */
     uint32_t length;           /* how many points a match is to; 9999 if it is unlimited */
     uint32_t score[2];         /* the points of the user, and of the opponent */
-    uint32_t rating;           /* in hundredths */
+    uint32_t rating_hundredths;
     fibs_decision play;        /* of the kind MOVE, with at least one step; else of the kind NONE */
     uint8_t kind;              /* one of FIBS_EVENT_.. */
     uint8_t who;               /* one of FIBS_SIDE_.. */
@@ -673,7 +691,7 @@ typedef struct fibs_player {
     uint64_t experience;       /* points of the matches that he played */
     uint64_t idle;             /* seconds since he last typed */
     uint64_t login;            /* when he logged in, in seconds since 1970 */
-    uint32_t rating;           /* in hundredths */
+    uint32_t rating_hundredths;
     uint8_t ready;             /* ready to play */
     uint8_t away;
 } fibs_player;

@@ -7,8 +7,9 @@ from typing import Any, List, Optional, Tuple, Union
 
 from . import _library
 from ._decisions import Decision, decision_of, record_of
-from ._texts import Text, Word, bytes_of, number_of, told, told_text
+from ._texts import Text, Word, bytes_of, length_of, number_of, told, told_text
 from .errors import Refused, TooManyOther, TooManyOwn, check, check_board
+from .events import Side
 
 
 class Phase(Word):
@@ -46,8 +47,10 @@ def _flag(field: int, what: str) -> Any:
 
 
 def _dice(field: int, what: str) -> Any:
-    first = field - _library.FIRST_FIELD
-    return property(lambda board: board.numbers[first:first + 2], doc=what)
+    def dice(board: Any) -> Optional[Tuple[int, int]]:
+        first, second = board.field(field), board.field(field + 1)
+        return (first, second) if first or second else None
+    return property(dice, doc=what)
 
 
 class Board:
@@ -136,12 +139,10 @@ class Board:
             raise IndexError('a board has the numbers of fields 4 to 53')
         return self.numbers[n - _library.FIRST_FIELD]
 
-    length: int = _number(4, 'How many points the match is to; 9999 if it is unlimited.')
     score: int = _number(5, "The player's points.")
     opponent_score: int = _number(6, "The opponent's points.")
-    turn: int = _number(33, 'The colour of the side whose turn it is; 0 if the game is over.')
-    dice: Tuple[int, int] = _dice(34, "The player's dice; zeros if there are none.")
-    opponent_dice: Tuple[int, int] = _dice(36, "The opponent's dice; zeros if there are none.")
+    dice: Optional[Tuple[int, int]] = _dice(34, "The player's dice; None if there are none.")
+    opponent_dice: Optional[Tuple[int, int]] = _dice(36, "The opponent's dice; None if there are none.")
     cube: int = _number(38, 'What the cube shows.')
     may_double: bool = _flag(39, 'True if the player may double.')
     opponent_may_double: bool = _flag(40, 'True if the opponent may double.')
@@ -150,6 +151,17 @@ class Board:
     direction: int = _number(43, 'Where the player goes: -1 from 24 to 1, 1 from 1 to 24.')
     off: int = _number(46, 'How many checkers the player bore off.')
     opponent_off: int = _number(47, 'How many checkers the opponent bore off.')
+
+    @property
+    def length(self) -> Optional[int]:
+        """How many points the match is to; None if it is unlimited."""
+        return length_of(self.field(4))
+
+    @property
+    def turn(self) -> Optional[Side]:
+        """The side whose turn it is; None if the game is over."""
+        colour = self.field(33)
+        return (Side.PLAYER if colour == self.colour else Side.OPPONENT) if colour else None
 
     @property
     def checkers(self) -> Tuple[int, ...]:

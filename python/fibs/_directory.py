@@ -9,7 +9,7 @@ from . import _library
 from ._handles import Handle
 from ._texts import Text, bytes_of, number_of, told, told_field
 from .errors import NoPlayer, check
-from .messages import Player
+from .messages import Player, player_of
 
 _FIELDS = range(1, len(Player._fields) + 1)
 
@@ -44,7 +44,7 @@ class Directory(Handle):
         if not 0 <= number_of(place, -1 << 63, (1 << 63) - 1, 'a place') < len(self):
             raise IndexError('there is no player at %d' % place)
         get = _library.lib.fibs_directory_field
-        return Player._make(told_field(get, self._owned.at, place, n) for n in _FIELDS)
+        return player_of(told_field(get, self._owned.at, place, n) for n in _FIELDS)
 
     def __iter__(self) -> Iterator[Player]:
         return (self[place] for place in range(len(self)))
@@ -62,9 +62,10 @@ class Directory(Handle):
         if status == NoPlayer.status:
             return None
         check(status)
-        return Player(_part(texts, found.name), _part(texts, found.opponent), _part(texts, found.watching),
-                      found.ready == 1, found.away == 1, found.rating, found.experience, found.idle, found.login,
-                      _part(texts, found.hostname), _part(texts, found.client), _part(texts, found.email))
+        return player_of((_part(texts, found.name), _part(texts, found.opponent), _part(texts, found.watching),
+                          found.ready == 1, found.away == 1, found.rating_hundredths, found.experience, found.idle,
+                          found.login, _part(texts, found.hostname), _part(texts, found.client),
+                          _part(texts, found.email)))
 
 
 def _part(texts: bytes, part: _library.Part) -> bytes:

@@ -13,14 +13,17 @@ from typing import Any
 
 # The library that this package is for. While the first number is 0 the second one changes with the records and
 # functions.
-VERSION = '0.3.0'
-SONAME = 'libfibs.so.0.3'
+VERSION = '0.4.0'
+SONAME = 'libfibs.so.0.4'
 
 # The statuses for which this package has no exception of its own.
 DONE, OFFLINE, NOT_READY, NO_BOARD, MEMORY, SHORT, NOTHING_WAITS = 0, 2, 3, 5, 401, 503, 507
 
 # The kinds of a field's value; those that are left have bytes.
 FLAG, NUMBER, RATING = 4, 5, 6
+
+# The length of an unlimited match, as a board has it.
+UNLIMITED = 9999
 
 # The field of a board's record that comes first in its numbers, and the one that has the direction of the player.
 FIRST_FIELD, DIRECTION = 4, 43
@@ -88,12 +91,12 @@ class Player(Structure):
     experience: int
     idle: int
     login: int
-    rating: int
+    rating_hundredths: int
     ready: int
     away: int
     _fields_ = [('name', Part), ('opponent', Part), ('watching', Part), ('hostname', Part), ('client', Part),
                 ('email', Part), ('experience', c_uint64), ('idle', c_uint64), ('login', c_uint64),
-                ('rating', c_uint32), ('ready', c_uint8), ('away', c_uint8)]
+                ('rating_hundredths', c_uint32), ('ready', c_uint8), ('away', c_uint8)]
 
 
 class Step(Structure):
@@ -145,7 +148,7 @@ class Event(Structure):
     points: int
     length: int
     score: Any
-    rating: int
+    rating_hundredths: int
     play: Decision
     kind: int
     who: int
@@ -153,7 +156,8 @@ class Event(Structure):
     offer: int
     dice: Any
     _fields_ = [('experience', c_uint64), ('name', Name), ('points', c_uint32), ('length', c_uint32),
-                ('score', c_uint32 * 2), ('rating', c_uint32), ('play', Decision), ('kind', c_uint8), ('who', c_uint8),
+                ('score', c_uint32 * 2), ('rating_hundredths', c_uint32), ('play', Decision), ('kind', c_uint8),
+                ('who', c_uint8),
                 ('worth', c_uint8), ('offer', c_uint8), ('dice', c_uint8 * 2)]
 
 

@@ -11,8 +11,7 @@ from ._boards import Board
 from ._handles import Handle
 from ._texts import Bytes, Text, Value, Word, bytes_of, piece_of, told_field, told_text
 from .errors import FieldBadName, NoField, check
-from .messages import KINDS as MESSAGES
-from .messages import Message
+from .messages import Message, message_of
 
 
 class Kind(Word):
@@ -72,7 +71,7 @@ class Line(NamedTuple):
         return _message(self.text, self.number) if self.kind == Kind.MESSAGE else None
 
     @property
-    def fields(self) -> Tuple[Value, ...]:
+    def fields(self) -> Tuple[Optional[Value], ...]:
         """The fields of a message: the same tuple; no fields if the line is anything else."""
         return self.message or ()
 
@@ -93,9 +92,9 @@ def read(text: Text) -> Line:
     return line_of(data, _library.lib.fibs_read(data, len(data)), False)
 
 
-def fields(text: Text) -> Tuple[Value, ...]:
-    """The fields of a message: names, words and texts as bytes, flags, numbers, and ratings in hundredths. No fields if
-    the line is no message."""
+def fields(text: Text) -> Tuple[Optional[Value], ...]:
+    """The fields of a message: names, words and texts as bytes, flags, numbers, and ratings in hundredths; None where
+    message 5 says that there is none. No fields if the line is no message."""
     return read(text).fields
 
 
@@ -106,8 +105,7 @@ def _message(data: bytes, number: int) -> Message:
         while True:
             found.append(told_field(_library.lib.fibs_read_field, data, len(data), len(found) + 1))
     except NoField:
-        message: Message = MESSAGES[number]._make(found)
-        return message
+        return message_of(number, found)
 
 
 class Stream(Protocol):

@@ -6,15 +6,15 @@ from ctypes import byref
 from typing import NamedTuple, Optional
 
 from . import _library
-from ._texts import Text, bytes_of
+from ._texts import Text, bytes_of, length_of
 
 
 class SavedMatch(NamedTuple):
-    """A match that was saved: the opponent, how many points it is to, fibs.UNLIMITED if it is unlimited, the points of
-    the user and of the opponent, and whether the opponent is logged in."""
+    """A match that was saved: the opponent, how many points it is to, None if it is unlimited, the points of the user
+    and of the opponent, and whether the opponent is logged in."""
 
     name: bytes
-    length: int
+    length: Optional[int]
     score: int
     opponent_score: int
     is_there: bool
@@ -27,4 +27,4 @@ def saved_match(text: Text) -> Optional[SavedMatch]:
     if not told.name.len:
         return None
     own, other = told.score
-    return SavedMatch(bytes(told.name.bytes[:told.name.len]), told.length, own, other, bool(told.there))
+    return SavedMatch(bytes(told.name.bytes[:told.name.len]), length_of(told.length), own, other, bool(told.there))

@@ -5,7 +5,7 @@ from __future__ import annotations
 import ctypes
 import enum
 from ctypes import byref, c_size_t
-from typing import Any, Callable, Tuple, Union
+from typing import Any, Callable, Optional, Tuple, Union
 
 from . import _library
 from .errors import check
@@ -28,6 +28,16 @@ class Word(enum.IntEnum):
 
     def __format__(self, form: str) -> str:
         return format(str(self), form)
+
+
+def length_of(points: int) -> Optional[int]:
+    """How many points a match is to; None if it is unlimited."""
+    return None if points == _library.UNLIMITED else points
+
+
+def rating_of(hundredths: int) -> str:
+    """A rating as the server writes it, such as 1623.50."""
+    return '%d.%02d' % divmod(hundredths, 100)
 
 
 def bytes_of(text: Text) -> bytes:

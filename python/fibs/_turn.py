@@ -71,8 +71,8 @@ class Turn:
         why = refusal(board, Decision.move(()))
         if why and not isinstance(why, IllegalPlay):
             raise why
-        first, second = board.dice
-        dice = (first,) * 4 if first == second else tuple(sorted(die for die in board.dice if die))
+        first, second = board.dice or (0, 0)
+        dice = (first,) * 4 if first == second else tuple(sorted(die for die in (first, second) if die))
         self._states = [_State(board.checkers, board.opponent_checkers[::-1], dice, None)]
         # the listed play of each arrangement that a legal play reaches
         self._listed: Dict[Tuple[_Side, _Side], Decision] = {}

@@ -6,8 +6,8 @@
             if isinstance(event, fibs.events.Rolled):
                 print(event.who, event.dice)
 
-Names and texts are bytes. who is a Side. length is fibs.UNLIMITED if the match is unlimited, ratings are in hundredths.
-worth is None if no board has shown the cube. They compare as tuples: ask by isinstance which event one is.
+Names and texts are bytes. who is a Side. length is None if the match is unlimited. worth
+is None if no board has shown the cube. They compare as tuples: ask by isinstance which event one is.
 """
 
 from __future__ import annotations
@@ -15,7 +15,7 @@ from __future__ import annotations
 from typing import Any, Callable, NamedTuple, Optional, Tuple, Union
 
 from ._decisions import Decision, Step
-from ._texts import Word
+from ._texts import Word, length_of, rating_of
 
 
 class Side(Word):
@@ -50,7 +50,7 @@ class Invited(NamedTuple):
     """A player invites the user to a new match."""
 
     name: bytes
-    length: int
+    length: Optional[int]
 
 
 class InvitedToResume(NamedTuple):
@@ -63,7 +63,7 @@ class Joined(NamedTuple):
     """A match begins. name is the opponent."""
 
     name: bytes
-    length: int
+    length: Optional[int]
 
 
 class Resumed(NamedTuple):
@@ -167,11 +167,16 @@ class NotPlaying(NamedTuple):
 
 
 class RatingChanged(NamedTuple):
-    """A rating has changed, in hundredths. experience is the points of the matches played."""
+    """A rating has changed. experience is the points of the matches played."""
 
     who: Side
-    rating: int
+    rating_hundredths: int
     experience: int
+
+    @property
+    def rating(self) -> str:
+        """The rating as the server writes it, such as 1623.50."""
+        return rating_of(self.rating_hundredths)
 
 
 class NothingSaved(NamedTuple):
@@ -219,9 +224,9 @@ def _steps(told: Any) -> Tuple[Step, ...]:
 # The events by their kinds in the library, from 1: what each is of its record and of the line.
 KINDS: Tuple[Callable[[Any, bytes], Event], ...] = (
     lambda told, line: LoggedIn(_name(told)),
-    lambda told, line: Invited(_name(told), told.length),
+    lambda told, line: Invited(_name(told), length_of(told.length)),
     lambda told, line: InvitedToResume(_name(told)),
-    lambda told, line: Joined(_name(told), told.length),
+    lambda told, line: Joined(_name(told), length_of(told.length)),
     lambda told, line: Resumed(_name(told)),
     lambda told, line: GameBegun(_name(told)),
     lambda told, line: Rolled(_who(told), _pair(told.dice)),
@@ -237,7 +242,7 @@ KINDS: Tuple[Callable[[Any, bytes], Event], ...] = (
     lambda told, line: MatchOver(_who(told), told.length, _pair(told.score)),
     lambda told, line: Left(_who(told)),
     lambda told, line: NotPlaying(),
-    lambda told, line: RatingChanged(_who(told), told.rating, told.experience),
+    lambda told, line: RatingChanged(_who(told), told.rating_hundredths, told.experience),
     lambda told, line: NothingSaved(_name(told)),
     lambda told, line: Refused(line),
     lambda told, line: LoginRefused(),

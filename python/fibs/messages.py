@@ -4,13 +4,16 @@
         if isinstance(line.message, fibs.messages.Says):
             print(line.message.name, line.message.text)
 
-Names, words and texts are bytes; a text may be empty. Numbers are int, flags are bool, ratings are in hundredths, times
-are in seconds since 1970. They compare as tuples: ask by isinstance which message one is.
+Names, words and texts are bytes; a text may be empty. Numbers are int, flags are bool, times are in seconds since 1970.
+A rating is a field in hundredths, and a text such as 1623.50 by name. They compare as tuples: ask by isinstance which
+message one is.
 """
 
 from __future__ import annotations
 
-from typing import Any, Dict, NamedTuple, Type, Union, get_args
+from typing import Any, Dict, Iterable, NamedTuple, Optional, Type, Union, get_args
+
+from ._texts import rating_of
 
 
 class Welcome(NamedTuple):
@@ -38,13 +41,18 @@ class OwnInfo(NamedTuple):
     moreboards: bool
     moves: bool
     notify: bool
-    rating: int
+    rating_hundredths: int
     ratings: bool
     ready: bool
     redoubles: bytes
     report: bool
     silent: bool
     timezone: bytes
+
+    @property
+    def rating(self) -> str:
+        """The user's rating as the server writes it."""
+        return rating_of(self.rating_hundredths)
 
 
 class MotdBegin(NamedTuple):
@@ -56,20 +64,37 @@ class MotdEnd(NamedTuple):
 
 
 class Player(NamedTuple):
-    """5: a player. `-` means no opponent, none watched, no client or no email. idle is in seconds."""
+    """5: a player. None means no opponent, none watched, no client or no email. idle is in seconds."""
 
     name: bytes
-    opponent: bytes
-    watching: bytes
+    opponent: Optional[bytes]
+    watching: Optional[bytes]
     ready: bool
     away: bool
-    rating: int
+    rating_hundredths: int
     experience: int
     idle: int
     login: int
     hostname: bytes
-    client: bytes
-    email: bytes
+    client: Optional[bytes]
+    email: Optional[bytes]
+
+    @property
+    def rating(self) -> str:
+        """The player's rating as the server writes it."""
+        return rating_of(self.rating_hundredths)
+
+
+def _named(text: Optional[bytes]) -> Optional[bytes]:
+    """A text of a player, or None if it is the server's word for none."""
+    return None if text == b'-' else text
+
+
+def player_of(fields: Iterable[Any]) -> Player:
+    """The player of the fields of a message 5."""
+    player = Player._make(fields)
+    return player._replace(opponent=_named(player.opponent), watching=_named(player.watching),
+                           client=_named(player.client), email=_named(player.email))
 
 
 class WhoInfoEnd(NamedTuple):
@@ -169,3 +194,9 @@ Message = Union[Welcome, OwnInfo, MotdBegin, MotdEnd, Player, WhoInfoEnd, Login,
 
 # By the number of the message.
 KINDS: Dict[int, Type[Any]] = dict(enumerate(get_args(Message), 1))
+
+
+def message_of(number: int, fields: Iterable[Any]) -> Message:
+    """The message of a number and its fields."""
+    message: Message = player_of(fields) if KINDS[number] is Player else KINDS[number]._make(fields)
+    return message
