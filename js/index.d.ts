@@ -51,16 +51,17 @@ export interface Board {
 
 export interface OwnInfo {
   message: 'ownInfo'; number: 2;
-  name: string; redoubles: string; timezone: string; experience: number; rating: number;
+  name: string; redoubles: string; timezone: string; experience: number; rating: number; ratingHundredths: number;
   allowpip: boolean; autoboard: boolean; autodouble: boolean; automove: boolean; away: boolean; bell: boolean;
   crawford: boolean; double: boolean; greedy: boolean; moreboards: boolean; moves: boolean; notify: boolean;
   ratings: boolean; ready: boolean; report: boolean; silent: boolean;
 }
 
-/** A player. A name, a client or an email that is not there is `-`. */
+/** A player. An opponent, one who is watched, a client or an email that is not there is null. */
 export interface Player {
-  name: string; opponent: string; watching: string; ready: boolean; away: boolean; rating: number;
-  experience: number; idle: number; login: number; hostname: string; client: string; email: string;
+  name: string; opponent: string | null; watching: string | null; ready: boolean; away: boolean;
+  rating: number; ratingHundredths: number; experience: number; idle: number; login: number;
+  hostname: string; client: string | null; email: string | null;
 }
 
 /** A message of the server. A number above 2^53 is the nearest that JavaScript has. */
@@ -211,7 +212,7 @@ export type Event =
   /** The server has refused the login: it asks for it once more. */
   | { event: 'loginRefused' }
   | { event: 'nextGame' | 'notPlaying' }
-  | { event: 'ratingChanged'; who: Side; rating: number; experience: number }
+  | { event: 'ratingChanged'; who: Side; rating: number; ratingHundredths: number; experience: number }
   | { event: 'refused'; text: string };
 
 /** What lines say has happened. Boards decide before texts, and nothing is told twice for a line that comes again. */

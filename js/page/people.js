@@ -61,7 +61,7 @@ export class People {
     const away = ({ rating }) => Math.abs(rating - own);
     const others = this.#players.filter((one) => one.name !== this.#me);
     const wanted = others.filter((one) => one.name.toLowerCase().includes(word)
-      && (!at('ready').checked || (one.ready && one.opponent === '-'))
+      && (!at('ready').checked || (one.ready && one.opponent === null))
       && (!at('near').checked || away(one) <= NEAR))
       .sort((a, b) => this.#saved.has(b.name) - this.#saved.has(a.name) || away(a) - away(b));
     at('count').textContent = `${wanted.length} of ${others.length}`;
@@ -77,7 +77,7 @@ export class People {
     const talk = button(name, `Talk to ${name}`, () => this.#does.talkTo(name), 'link');
     const notes = [one.away && ' away', isSaved && element('small', { textContent: ' saved match' })].filter(Boolean);
     let last = '';
-    if (one.opponent !== '-') last = button('Watch', `Watch ${name} and ${one.opponent}`, () => this.#does.watch(name));
+    if (one.opponent !== null) last = button('Watch', `Watch ${name} and ${one.opponent}`, () => this.#does.watch(name));
     else if (one.ready && isSaved) last = this.#resumeButton(name);
     else if (one.ready) last = button('Invite', `Invite ${name}`, () => this.#does.invite(name, at('points').value));
     return rowOf(element('td', {}, talk, ...notes), one.rating.toFixed(0), one.experience, element('td', {}, last));

@@ -54,8 +54,9 @@ test('each message has its fields', () => {
   assert.equal(found[1].rating, 3457.85);
   assert.equal(found[1].redoubles, 'none');
   assert.deepEqual(found[4], {
-    kind: 'message', number: 5, message: 'whoInfo', name: 'eve', opponent: '-', watching: 'bob', hostname: 'host',
-    client: '-', email: 'e@x', ready: true, away: false, experience: 10, idle: 3, login: 1041253132, rating: 1500.05,
+    kind: 'message', number: 5, message: 'whoInfo', name: 'eve', opponent: null, watching: 'bob', hostname: 'host',
+    client: null, email: 'e@x', ready: true, away: false, experience: 10, idle: 3, login: 1041253132, rating: 1500.05,
+    ratingHundredths: 150005,
   });
   assert.deepEqual([found[8].sender, found[8].time, found[8].text], ['eve', 12, 'so']);
 });
@@ -81,7 +82,8 @@ test('a directory has who was listed', () => {
   directory.note('8 bob leaves');
   directory.note('hello');
   assert.deepEqual(directory.players.map((player) => player.name), ['eve']);
-  assert.equal(directory.get('eve').rating, 1500);
+  const { rating, ratingHundredths, opponent, client } = directory.get('eve');
+  assert.deepEqual([rating, ratingHundredths, opponent, client], [1500, 150000, null, null]);
   assert.equal(directory.get('bob'), null);
   directory.clear();
   assert.deepEqual(directory.players, []);

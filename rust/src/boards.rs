@@ -2,7 +2,7 @@
 
 use crate::{
     AllocError, Board, Decision, Direction, Disallowed, FieldFault, Message, Phase, Play, Position, PositionFault,
-    Reading, Step, differs, effect, fibs_messages::print_message, field, read,
+    Reading, Side, Step, differs, effect, fibs_messages::print_message, field, read,
 };
 use std::fmt;
 use std::hash::{Hash, Hasher};
@@ -65,6 +65,23 @@ impl Board {
 
     fn small(&self, n: usize) -> u8 {
         u8::try_from(self.field(n)).unwrap_or_default()
+    }
+
+    /// Whose turn it is. None if the game is over.
+    ///
+    /// ```
+    /// # let line = "board:You:bob:3:0:1:0:-2:0:0:0:0:5:0:3:0:0:0:-5:5:0:0:0:-3:0:-5:0:0:0:0:2:0:1:\
+    /// #     6:2:0:0:1:1:1:0:1:-1:0:25:0:0:0:0:2:0:0:0";
+    /// let board: fibs::Board = line.parse()?;
+    /// assert_eq!((board.turn(), board.turned().turn()), (Some(fibs::Side::Own), Some(fibs::Side::Other)));
+    /// # Ok::<(), fibs::FieldFault>(())
+    /// ```
+    pub fn turn(&self) -> Option<Side> {
+        match self.field(field::TURN) {
+            0 => None,
+            turn if turn == self.field(field::COLOUR) => Some(Side::Own),
+            _ => Some(Side::Other),
+        }
     }
 
     /// What the cube shows.

@@ -91,6 +91,7 @@ pub use fibs_position::{
 pub use fibs_session::{Outstanding, PlainRefusal, Refusal};
 pub use lines::{Lines, OwnedLine, OwnedLines, ReadLines};
 pub use match_files::{MatchFile, MatchFiles};
+pub use people::rating_text;
 pub use rattle::alloc::AllocError;
 pub use saved::SavedMatch;
 pub use turn::{NextStep, Turn};

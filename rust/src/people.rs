@@ -19,6 +19,15 @@ impl Directory {
     }
 }
 
+/// A rating, which is in hundredths wherever it is a number, as the server writes it.
+///
+/// ```
+/// assert_eq!(fibs::rating_text(162_350), "1623.50");
+/// ```
+pub fn rating_text(hundredths: u32) -> String {
+    format!("{}.{:02}", hundredths / 100, hundredths % 100)
+}
+
 impl Default for Directory {
     fn default() -> Directory {
         Directory::new()

@@ -34,7 +34,220 @@ pub mod cell {
 }
 
 pub mod collections {
-    pub use std::collections::{HashMap, hash_map};
+    pub use super::hash_map::{self, HashMap};
+}
+
+/// Maps as in Rattle: the entries stand in the order in which they came, and a table finds each by its hash. The seed of
+/// the hashes is fixed, so whoever chooses the keys can make them collide: those here are the arrangements that follow
+/// from one board, 3,060 at most.
+pub mod hash_map {
+    use super::alloc::AllocError;
+    use super::may::{MayVec, may_from_elem};
+    use std::hash::{Hash, Hasher};
+
+    /// A map.
+    pub struct HashMap<K, V> {
+        entries: Vec<(K, V)>,
+        /// A power of two of them, at least twice as many as entries. A slot has 0, or the upper half of a hash with the
+        /// place of its entry, which is counted from 1: the first free one from that of the hash on.
+        slots: Vec<u64>,
+    }
+
+    impl<K: Eq + Hash, V> HashMap<K, V> {
+        /// A map with room for so many entries.
+        pub fn may_with_capacity(capacity: usize) -> Result<Self, AllocError> {
+            let count = (2 * capacity).next_power_of_two().max(2);
+            Ok(HashMap { entries: Vec::may_with_capacity(capacity)?, slots: may_from_elem(0, count)? })
+        }
+
+        /// The entry of a key, with room for it if there is none.
+        pub fn may_entry(&mut self, key: K) -> Result<Entry<'_, K, V>, AllocError> {
+            if 2 * (self.entries.len() + 1) > self.slots.len() {
+                self.grow()?;
+            }
+            self.entries.may_reserve(1)?;
+            let hash = hash_of(&key);
+            let is_it = |entry: &(K, V)| entry.0 == key;
+            Ok(match find(&self.entries, &self.slots, hash, is_it) {
+                (_, Some(place)) => Entry::Occupied(OccupiedEntry(&mut self.entries[place].1)),
+                (slot, None) => Entry::Vacant(VacantEntry { map: self, key, hash, slot }),
+            })
+        }
+
+        /// The values, in the order in which their keys came.
+        pub fn values(&self) -> impl Iterator<Item = &V> {
+            self.entries.iter().map(|entry| &entry.1)
+        }
+
+        /// Makes twice as many slots.
+        fn grow(&mut self) -> Result<(), AllocError> {
+            let mut slots = may_from_elem(0, 2 * self.slots.len())?;
+            for (place, (key, _)) in self.entries.iter().enumerate() {
+                let hash = hash_of(key);
+                let (slot, _) = find(&self.entries, &slots, hash, |_| false);
+                slots[slot] = mark(hash, place);
+            }
+            self.slots = slots;
+            Ok(())
+        }
+    }
+
+    /// What a slot has of the entry at a place.
+    fn mark(hash: u64, place: usize) -> u64 {
+        hash >> 32 << 32 | (place as u64 + 1)
+    }
+
+    /// Looks for an entry by its hash: the slot at which the search ends, and the place of the entry if it is there.
+    #[inline]
+    fn find<E>(entries: &[E], slots: &[u64], hash: u64, is_it: impl Fn(&E) -> bool) -> (usize, Option<usize>) {
+        let mut slot = hash as usize & (slots.len() - 1);
+        while slots[slot] != 0 {
+            let place = slots[slot] as u32 as usize - 1;
+            if slots[slot] >> 32 == hash >> 32 && is_it(&entries[place]) {
+                return (slot, Some(place));
+            }
+            slot = (slot + 1) & (slots.len() - 1);
+        }
+        (slot, None)
+    }
+
+    /// The place of a key.
+    pub enum Entry<'a, K, V> {
+        /// It has a value.
+        Occupied(OccupiedEntry<'a, V>),
+        /// It has none.
+        Vacant(VacantEntry<'a, K, V>),
+    }
+
+    /// The value of a key.
+    pub struct OccupiedEntry<'a, V>(&'a mut V);
+
+    impl<'a, V> OccupiedEntry<'a, V> {
+        pub fn into_mut(self) -> &'a mut V {
+            self.0
+        }
+    }
+
+    /// A key without a value.
+    pub struct VacantEntry<'a, K, V> {
+        map: &'a mut HashMap<K, V>,
+        key: K,
+        hash: u64,
+        slot: usize,
+    }
+
+    impl<'a, K, V> VacantEntry<'a, K, V> {
+        pub fn insert(self, value: V) -> &'a mut V {
+            let place = self.map.entries.len();
+            self.map.slots[self.slot] = mark(self.hash, place);
+            self.map.entries.push((self.key, value));
+            &mut self.map.entries[place].1
+        }
+    }
+
+    /// A hasher that is quick for short keys, much as Rattle's: it multiplies up to 16 bytes at once, and joins the two
+    /// halves.
+    struct FoldHasher(u64);
+
+    const MULTIPLIER: u64 = 0x9e37_79b9_7f4a_7c15;
+
+    impl FoldHasher {
+        #[inline]
+        fn fold(&mut self, low: u64, high: u64) {
+            let product = u128::from(self.0 ^ low) * u128::from(MULTIPLIER ^ high);
+            self.0 = product as u64 ^ (product >> 64) as u64;
+        }
+    }
+
+    impl Hasher for FoldHasher {
+        fn finish(&self) -> u64 {
+            self.0
+        }
+
+        #[inline]
+        fn write(&mut self, bytes: &[u8]) {
+            let (pairs, rest) = bytes.as_chunks::<16>();
+            for pair in pairs {
+                let number = u128::from_le_bytes(*pair);
+                self.fold(number as u64, (number >> 64) as u64);
+            }
+            if !rest.is_empty() {
+                let mut last = [0; 16];
+                last[..rest.len()].copy_from_slice(rest);
+                let number = u128::from_le_bytes(last);
+                self.fold(number as u64, (number >> 64) as u64);
+            }
+        }
+    }
+
+    fn hash_of<K: Hash>(key: &K) -> u64 {
+        let mut hasher = FoldHasher(0x243f_6a88_85a3_08d3);
+        key.hash(&mut hasher);
+        hasher.finish()
+    }
+
+    #[cfg(test)]
+    mod tests {
+        use super::*;
+        use std::collections;
+
+        /// A key whose hash is the same for many.
+        #[derive(Clone, Copy, PartialEq, Eq)]
+        struct Crowded(u32);
+
+        impl Hash for Crowded {
+            fn hash<H: Hasher>(&self, state: &mut H) {
+                state.write(&[(self.0 % 3) as u8]);
+            }
+        }
+
+        /// A key of as many bytes as a side of a board has.
+        fn bytes_of(number: u32) -> [u8; 26] {
+            std::array::from_fn(|place| number.to_le_bytes()[place % 4])
+        }
+
+        /// Counts how often each key comes: by this map, and by Rust's.
+        fn counts_as_rusts<K: Copy + Eq + Hash>(room: usize, key: impl Fn(u32) -> K) {
+            let mut map = HashMap::may_with_capacity(room).unwrap();
+            let mut wanted = collections::HashMap::new();
+            let mut order = Vec::new();
+            for round in 0..3000 {
+                let number = round * round % 701;
+                match map.may_entry(key(number)).unwrap() {
+                    Entry::Occupied(spot) => *spot.into_mut() += 1,
+                    Entry::Vacant(spot) => {
+                        order.push(number);
+                        *spot.insert(0) += 1;
+                    }
+                }
+                *wanted.entry(number).or_insert(0) += 1;
+            }
+            assert!(map.values().copied().eq(order.iter().map(|number| wanted[number])));
+            assert_eq!(order.len(), wanted.len());
+        }
+
+        #[test]
+        fn a_map_has_a_value_for_each_key_in_the_order_in_which_they_came() {
+            for room in [0, 1, 36, 1000] {
+                counts_as_rusts(room, |number| number);
+                counts_as_rusts(room, bytes_of);
+                counts_as_rusts(room, Crowded);
+            }
+        }
+
+        #[test]
+        fn a_hash_depends_on_each_byte() {
+            let mut seen = collections::HashSet::new();
+            for place in 0..52 {
+                for byte in 0..16 {
+                    let mut counts = [0u8; 52];
+                    counts[place] = byte;
+                    seen.insert(hash_of(&counts));
+                }
+            }
+            assert_eq!(seen.len(), 52 * 15 + 1);
+        }
+    }
 }
 
 pub mod io {
@@ -67,8 +280,6 @@ pub mod itoa {
 pub mod may {
     use super::alloc::AllocError;
     use indexmap::IndexMap;
-    use std::collections::HashMap;
-    use std::collections::hash_map::Entry;
     use std::hash::{BuildHasher, Hash};
 
     pub trait MayVec<T>: Sized {
@@ -152,24 +363,6 @@ pub mod may {
     }
 
     impl<I: Iterator> MayIterator for I {}
-
-    pub trait MayHashMap<K, V>: Sized {
-        fn may_with_capacity(capacity: usize) -> Result<Self, AllocError>;
-        fn may_entry(&mut self, key: K) -> Result<Entry<'_, K, V>, AllocError>;
-    }
-
-    impl<K: Eq + Hash, V, S: BuildHasher + Default> MayHashMap<K, V> for HashMap<K, V, S> {
-        fn may_with_capacity(capacity: usize) -> Result<Self, AllocError> {
-            let mut map = HashMap::with_hasher(S::default());
-            map.try_reserve(capacity).map_err(|_| AllocError)?;
-            Ok(map)
-        }
-
-        fn may_entry(&mut self, key: K) -> Result<Entry<'_, K, V>, AllocError> {
-            self.try_reserve(1).map_err(|_| AllocError)?;
-            Ok(self.entry(key))
-        }
-    }
 
     pub trait MayIndexMap<K, V> {
         fn may_insert(&mut self, key: K, value: V) -> Result<Option<V>, AllocError>;

@@ -100,6 +100,17 @@ impl Json {
     /// A rating, which is in hundredths.
     fn rating(&mut self, rating: u32) {
         self.key("rating").raw(&format!("{}.{:02}", rating / 100, rating % 100));
+        self.numbers(&[("ratingHundredths", rating)]);
+    }
+
+    /// Fields that are texts, or null where the server says `-`: there is none.
+    fn perhaps(&mut self, fields: &[(&str, &[u8])]) {
+        for (name, text) in fields {
+            match *text {
+                b"-" => self.key(name).raw("null"),
+                text => self.key(name).text(text),
+            }
+        }
     }
 
     /// Begins the object of a line of the stream, with what the line says.
@@ -394,11 +405,10 @@ impl Json {
     }
 
     fn who_info(&mut self, info: &WhoInfo<'_>) {
-        self.texts(&[
-            ("name", info.name.bytes()),
+        self.texts(&[("name", info.name.bytes()), ("hostname", info.hostname.bytes())]);
+        self.perhaps(&[
             ("opponent", info.opponent.bytes()),
             ("watching", info.watching.bytes()),
-            ("hostname", info.hostname.bytes()),
             ("client", info.client.bytes()),
             ("email", info.email.bytes()),
         ]);
@@ -410,11 +420,10 @@ impl Json {
     /// A player of a directory.
     pub fn player(&mut self, player: &Player) {
         self.open('{');
-        self.texts(&[
-            ("name", &player.name),
+        self.texts(&[("name", &player.name), ("hostname", &player.hostname)]);
+        self.perhaps(&[
             ("opponent", &player.opponent),
             ("watching", &player.watching),
-            ("hostname", &player.hostname),
             ("client", &player.client),
             ("email", &player.email),
         ]);

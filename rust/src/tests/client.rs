@@ -4,7 +4,8 @@
 use crate::fibs_fields::boards::Board;
 use crate::fibs_lines::Line;
 use crate::fibs_messages::Reading;
-use crate::fibs_position::Decision;
+use crate::fibs_position::{Decision, Numbers};
+use crate::fibs_session::typed::meant::{is_command_by, meant_command};
 use crate::fibs_session::{
     Client, Input, Login, Outstanding, Plain, PlainFault, PlainRefusal, Refusal, Session, run_client,
 };
@@ -454,4 +455,45 @@ fn a_long_run_hands_out_every_command() {
     let piece = repeated(100, GREETING).expect("memory is ample");
     let is_whole = is_whole_run(login(), &piece) == Ok(true);
     assert!(piece.len() > 8000 && is_whole, "each command of a long piece");
+}
+
+/// A board on which the player goes up by the server's numbers, with dice.
+const GOES_UP: &[u8] =
+    b"board:You:bob:5:0:0:0:0:0:0:-1:0:0:0:0:0:0:0:0:0:0:0:0:0:0:0:2:0:0:0:0:0:-1:6:5:0:0:1:1:1:0:-1:1:25:0:14:13:0:0:1:0:0:0";
+
+/// A line is a command by either numbers, or by none: a decision, talk, an order.
+#[test]
+fn a_line_is_a_command_by_all_numbers() {
+    let mut client = ready();
+    feed_line(&mut client, GOES_UP);
+    for (line, is_one) in [
+        ("move 21-15", true),
+        ("move bar-20", true),
+        ("roll", true),
+        ("say hello", true),
+        ("order roll", true),
+        ("withdraw roll", true),
+        ("move 21-25", false),
+        ("dance", false),
+    ] {
+        let found = [Numbers::TheOwn, Numbers::TheServers].map(|it| is_command_by(&client, it, line.as_bytes()));
+        assert_eq!(found, [is_one; 2], "{line}");
+    }
+}
+
+/// What is sent for a move has the server's numbers, by whatever numbers it was typed.
+#[test]
+fn a_move_is_meant_by_the_numbers_of_who_types() {
+    let mut client = ready();
+    feed_line(&mut client, GOES_UP);
+    for (numbers, line, command) in [
+        (Numbers::TheOwn, "move 21-15", Some("move 4-10")),
+        (Numbers::TheServers, "move 4-10", Some("move 4-10")),
+        (Numbers::TheOwn, "roll", Some("roll")),
+        (Numbers::TheOwn, "say hello", None),
+        (Numbers::TheOwn, "dance", None),
+    ] {
+        let meant = meant_command(&client, numbers, line.as_bytes());
+        assert_eq!(meant.as_ref().map(|it| it.as_str()), command, "{line} by {numbers:?}");
+    }
 }

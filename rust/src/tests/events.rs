@@ -363,6 +363,94 @@ fn each_line_says_what_has_happened() {
     }
 }
 
+/// Each row is of something that was known of a player, a match, a game or a login, and ends with it.
+#[test]
+fn what_was_known_ends_with_what_it_is_of() {
+    const INVITES: &str = "eve wants to play a 3 point match with you.";
+    const WINS: &str = "eve wins the game and gets 2 points. Sorry.";
+    let won = LOST_ALL.replace(":eve:3:0:4:", ":eve:3:4:0:");
+    let longer = [TAKEN.replace(":eve:3:0:0:", ":eve:5:0:4:"), LOST_ALL.replace(":eve:3:0:4:", ":eve:5:0:6:")];
+    let closed = "board:You:eve:5:0:0:0:0:0:0:0:0:14:0:0:0:0:0:0:0:0:0:0:0:0:-2:-2:-2:-2:-2:-2:1:1:3:1:0:0:1:1:1:0:1:-1:0:25:0:3:1:0:0:0:0:0";
+    let rows: &[(&[&str], &[&str])] = &[
+        // invitations
+        (&[INVITES, "bob wants to play a 3 point match with you."], &["invited by eve to 3", "invited by bob to 3"]),
+        (&[INVITES, "8 bob bob logs out.", INVITES], &["invited by eve to 3"]),
+        (&[INVITES, JOINED, INVITES], &["invited by eve to 3", "joined eve to 3", "invited by eve to 3"]),
+        (
+            &[LOGGED_IN, INVITES, LOGGED_IN, INVITES],
+            &["logged in ann", "invited by eve to 3", "logged in ann", "invited by eve to 3"],
+        ),
+        // another opponent
+        (&[JOINED, "** Player bob has joined you for a 3 point match."], &["joined eve to 3", "joined bob to 3"]),
+        (
+            &[
+                "eve has joined you. Your running match was loaded.",
+                "bob has joined you. Your running match was loaded.",
+            ],
+            &["resumed with eve", "resumed with bob"],
+        ),
+        (&["Starting a new game with eve.", "Starting a new game with bob."], &["game with eve", "game with bob"]),
+        (
+            &[
+                JOINED,
+                "5 eve ann - 0 0 1500.00 9 1 1041253132 host client -",
+                "** Player bob has joined you for a 3 point match.",
+                "5 bob ann - 0 0 1600.00 9 1 1041253132 host client -",
+            ],
+            &["joined eve to 3", "joined bob to 3"],
+        ),
+        // the next match
+        (
+            &[
+                JOINED, "Starting a new game with eve.", "You win the 3 point match 3-1 .", JOINED,
+                "You win the 3 point match 3-2 .",
+            ],
+            &[
+                "joined eve to 3", "game with eve", "ann won the match to 3 3-1", "joined eve to 3",
+                "ann won the match to 3 3-2",
+            ],
+        ),
+        (
+            &[TAKEN, &won, TAKEN, &won],
+            &["ann won 4 gammon", "ann won the match to 3 4-0", "ann won 4 gammon", "ann won the match to 3 4-0"],
+        ),
+        (
+            &[TAKEN, LOST_ALL, TAKEN, LOST_ALL],
+            &["eve won 4 gammon", "eve won the match to 3 0-4", "eve won 4 gammon", "eve won the match to 3 0-4"],
+        ),
+        (
+            &[TAKEN, LOST_ALL, &longer[0], &longer[1]],
+            &["eve won 4 gammon", "eve won the match to 3 0-4", "eve won 2 single", "eve won the match to 5 0-6"],
+        ),
+        // the next game
+        (
+            &[TAKEN, "Starting a new game with eve.", "You want to resign. eve will win 2 points."],
+            &["game with eve", "ann resigns 2 ?"],
+        ),
+        (&[TAKEN, WINS, BEGUN, WINS], &["eve won 2 single", "ann rolled 6 3", "eve won 2 gammon"]),
+        // a double
+        (
+            &[
+                TO_ROLL,
+                "You double. Please wait for eve to accept or reject.",
+                "eve gives up. You win 1 point.",
+                "eve gives up. You win 1 point.",
+            ],
+            &["ann doubled", "eve rejected"],
+        ),
+        (
+            &[DOUBLED, "You accept the double. The cube shows 2.", "eve rolls 4 and 2.", "eve moves 12-16 17-19 ."],
+            &["eve doubled", "ann accepted the double", "eve rolled 4 2", "eve played 13-9 8-6"],
+        ),
+        // a roll, and a message of the day that a new login cuts off
+        (&[closed, "You can't move."], &["ann rolled 3 1", "ann can't move"]),
+        (&[LOGGED_IN, "3", LOGGED_IN, JOINED], &["logged in ann", "logged in ann", "joined eve to 3"]),
+    ];
+    for (lines, wanted) in rows {
+        assert_eq!(heard(lines.iter().copied()), *wanted, "{lines:?}");
+    }
+}
+
 /// How often bytes that come in pieces of this size say that the login was refused.
 fn refusals(events: &mut Events, bytes: &[u8], size: usize) -> usize {
     bytes.chunks(size).map(|piece| events.hear_bytes(piece).filter(|event| *event == Event::LoginRefused).count()).sum()

@@ -1,6 +1,7 @@
 //! What of boards, names and numbers the library for C does not show. Worked lines are read in tests/rows.
 
 use crate::fibs_fields::boards::Board;
+use crate::fibs_fields::name::name_run;
 use crate::fibs_messages::laws::{print_reads_back, prints_tell_boards};
 use crate::fibs_messages::{Fault, FieldFault, Name, read_decimal, split};
 use crate::rattle::may::*;
@@ -168,5 +169,15 @@ fn faults_have_names_and_numbers() {
     for (fault, name, number) in &FAULTS {
         let is_told = fault.name() == *name && fault.number() == *number;
         assert!(is_told, "{name}");
+    }
+}
+
+/// How many bytes at the front of a text may be in a name: those that are a name by themselves.
+#[test]
+fn a_name_ends_before_a_byte_that_no_name_has() {
+    for byte in 0..=255 {
+        let text = [b'a', byte, b'b', b' ', b'c'];
+        let len = if Name::new(&[byte]).is_some() { 3 } else { 1 };
+        assert_eq!(name_run(&text), len, "{byte}");
     }
 }

@@ -81,3 +81,43 @@ fn an_offer_to_resign_that_nobody_answers_changes_nothing() {
     }
     assert_eq!(files.files()[0].text, WANTED);
 }
+
+/// The file of ann's match with eve, whose first play ann has made, after these lines.
+fn after_a_play(lines: &[&str]) -> String {
+    let begun = ["1 ann 1041253132 localhost", "** Player eve has joined you for a 3 point match.", BEGUN, PLAYED];
+    let mut files = MatchFiles::new("ann");
+    for line in begun.iter().chain(lines) {
+        files.hear(&read(line.as_bytes())).expect("memory is ample");
+    }
+    files.files()[0].text.clone()
+}
+
+const WON: &str = "You win the game and get 1 point. Congratulations!";
+
+/// Neither a roll of which no board came, nor an offer to resign that was accepted. Of the next game the dice of the
+/// first play are only told, or only shown; the play could be that of 4 and 2.
+#[test]
+fn nothing_goes_on_in_the_next_game() {
+    let score = (":3:0:0:0:-2:", ":3:1:0:0:-2:");
+    let rolled = changed(BEGUN, &[score, (":6:3:0:0:", ":5:1:0:0:")]);
+    let to_7 = (":5:0:3:0:0:0:-5:5:", ":5:1:3:0:0:0:-5:4:");
+    let played = changed(BEGUN, &[score, to_7, (":1:6:3:0:0:", ":-1:0:0:0:0:")]);
+    let offer = "eve wants to resign. You will win 1 point. Type 'accept' or 'reject'.";
+    for told in [["eve rolls 6 and 6.", WON, "You rolled 5, eve rolled 1"], [offer, WON, &rolled]] {
+        let file = after_a_play(&[&told[..], &[&played]].concat());
+        assert!(file.ends_with("\n  1) 51: 13/8 8/7                \n\n"), "{}: {file}", told[0]);
+    }
+}
+
+#[test]
+fn a_double_that_stood_was_not_dropped() {
+    let doubled = changed(PLAYED, &[(":1:1:1:0:1:-1:", ":1:1:1:1:1:-1:")]);
+    for (end, is_dropped) in [
+        ("eve wins the game and gets 1 point. Sorry.", true),
+        ("eve wins the game and gets 2 points. Sorry.", false),
+        (WON, false),
+    ] {
+        let file = after_a_play(&["eve doubles. Type 'accept' or 'reject'.", &doubled, end]);
+        assert_eq!((file.contains("Doubles => 2"), file.contains(" Drops")), (true, is_dropped), "{end}: {file}");
+    }
+}

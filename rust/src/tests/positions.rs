@@ -1,7 +1,7 @@
 //! The boards of `boards.txt`: what is seen, may be decided and is carried out on each; and what else a position answers.
 
 use crate::fibs_fields::boards::Board;
-use crate::fibs_position::{Decision, Direction, Position, WatchedBoard, differs, effect};
+use crate::fibs_position::{Decision, Direction, GameBoard, Position, WatchedBoard, differs, effect};
 use crate::tests::boards::{AS_SENT, PASSING, TABLE, TO_ANSWER, TO_MOVE, TO_ROLL};
 use crate::tests::table::{After, Checkers, Row, rows};
 
@@ -113,4 +113,16 @@ fn boards_do_not_differ_in_the_player() {
     let first = Board::read(TO_ROLL).expect("it is a board");
     let player = [b"board:Yet", &TO_ROLL[b"board:You".len()..]].concat();
     assert!(!differs(&first, &Board::read(&player).expect("it is a board")));
+}
+
+/// The next board of a game takes the place of the one before it, also if they differ in nothing that the game is.
+#[test]
+fn a_game_has_the_board_that_came_last() {
+    let board = Board::read(TO_ROLL).expect("the line is read");
+    let mut game = GameBoard::of(&board).expect("it has a position");
+    for (field, number, differs) in [(50, 3, false), (50, 4, false), (33, -board.field(33), true)] {
+        let next = board.with(field, number).expect("it may have that number");
+        assert_eq!(game.follow(&next), Some(differs), "field {field} is {number}");
+        assert_eq!(game.board(), &next, "field {field} is {number}");
+    }
 }

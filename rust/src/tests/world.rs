@@ -4,6 +4,7 @@
 use crate::fibs_fields::boards::Board;
 use crate::fibs_model::{Event, World, WorldRefusal};
 use crate::fibs_position::Decision;
+use crate::fibs_replay::run::script_login;
 use crate::fibs_session::Login;
 use crate::rattle::alloc::AllocError;
 use crate::rattle::may::*;
@@ -240,4 +241,10 @@ fn a_world_settles_on_a_connection_with_dice() {
     let refused = refusals_to_settle(&mut world);
     let not_open = (0, Some(WorldRefusal::NotOpen));
     assert!(refused == [not_open, not_open, (1, None), (0, Some(WorldRefusal::BadDice))]);
+}
+
+/// The login of scripts, as `loop` sends it.
+#[test]
+fn scripts_log_in_as_ann() {
+    assert_eq!(script_login().command().as_str(), "login fibs_client 1008 ann secret");
 }

@@ -1,6 +1,6 @@
 //! A server is heard while a person types: whichever comes first ends the wait.
 
-use crate::fibs_engine::attention::{Attention, Pace};
+use crate::fibs_engine::pacing::{Attention, Pace};
 use std::io::{Read, Write};
 use std::os::fd::AsRawFd;
 use std::os::unix::net::UnixStream;

@@ -30,7 +30,7 @@ fn printed(engine: Engine, input: &[u8], most: usize, after: After, room: usize)
 const LINES: &[u8] = b"> a\"\n10 carol\r\nbc";
 
 const SHOWN: &[u8] =
-    b"{\"kind\":\"text\",\"line\":\"a\\u0022\"}\n{\"kind\":\"message\",\"line\":\"10 carol\",\"number\":10,\"message\":\"message_delivered\",\"name\":\"carol\"}\n{\"kind\":\"unfinished\",\"bytes\":2}\n";
+    b"{\"kind\":\"text\",\"line\":\"a\\u0022\",\"line_number\":1,\"offset\":0}\n{\"kind\":\"message\",\"line\":\"10 carol\",\"number\":10,\"message\":\"message_delivered\",\"name\":\"carol\",\"line_number\":2,\"offset\":5}\n{\"kind\":\"unfinished\",\"line\":\"bc\",\"bytes\":2,\"line_number\":3,\"offset\":15}\n";
 
 /// A script of which an event is refused, and its objects.
 const SCRIPT: &[u8] =
@@ -63,8 +63,11 @@ fn prints_objects_up_to_a_failed_write() {
 static BEFORE_A_FAULT: [(&[u8], &[u8]); 4] = [
     (b"", b""),
     (b"a", b""),
-    (b"a\n", b"{\"kind\":\"text\",\"line\":\"a\"}\n"),
-    (b"a\n\nb", b"{\"kind\":\"text\",\"line\":\"a\"}\n{\"kind\":\"text\",\"line\":\"\"}\n"),
+    (b"a\n", b"{\"kind\":\"text\",\"line\":\"a\",\"line_number\":1,\"offset\":0}\n"),
+    (
+        b"a\n\nb",
+        b"{\"kind\":\"text\",\"line\":\"a\",\"line_number\":1,\"offset\":0}\n{\"kind\":\"text\",\"line\":\"\",\"line_number\":2,\"offset\":2}\n",
+    ),
 ];
 
 #[test]

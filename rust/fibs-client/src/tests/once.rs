@@ -1,9 +1,8 @@
 //! Devices that fail once: what failed is not tried again by itself.
 
-use crate::fibs_engine::attention::Pace;
 use crate::fibs_engine::dial::{Dial, Endpoint, TcpDial};
 use crate::fibs_engine::logging::LoggedServer;
-use crate::fibs_engine::pacing::PacedServer;
+use crate::fibs_engine::pacing::{Pace, PacedServer};
 use crate::fibs_test_tools::devices::FailsOnce;
 use crate::fibs_test_tools::pipe::{After, Pipe, QUIET};
 use crate::fibs_test_tools::stumbling::Stumbles;

@@ -1,10 +1,10 @@
 //! What goes as if it were typed: when it is due, and where it is put in what is typed.
 
 use super::connect::Door;
-use crate::fibs::player::ordering::{Dues, OrderedInput, OrderedServer, OrderedWatch};
 use crate::fibs_connect::watch::{First, Patience, Watch};
 use crate::fibs_engine::dial::Dial;
 use crate::fibs_terminal::FixLine;
+use crate::fibs_terminal::ordering::{Dues, OrderedInput, OrderedServer, OrderedWatch};
 use crate::fibs_test_tools::pipe::{After, Pipe};
 use crate::rattle::io;
 use crate::rattle::io::Read;

@@ -23,7 +23,7 @@ struct Case {
 const BOARD: &str = "board:You:bob:5:0:0:0:0:0:0:0:0:0:0:0:0:0:0:0:-2:0:0:0:0:0:0:0:0:0:0:1:0:1:6:5:0:0:1:1:1:0:1:-1:0:25:14:13:0:0:1:0:0:0";
 
 /// Command lines that run an engine.
-static SERVED: [Case; 9] = [
+static SERVED: [Case; 10] = [
     Case {
         name: "show prints on standard output",
         words: &["show"],
@@ -46,7 +46,18 @@ static SERVED: [Case; 9] = [
         words: &["show", "--json"],
         input: b"a\n",
         status: 0,
-        out: b"{\"kind\":\"text\",\"line\":\"a\"}\n",
+        out: b"{\"kind\":\"text\",\"line\":\"a\",\"line_number\":1,\"offset\":0}\n",
+        err: b"",
+    },
+    Case {
+        name: "with both options show prints events too",
+        words: &["show", "--json", "--events"],
+        input: b"You roll 6 and 2.\n",
+        status: 0,
+        out: b"{\"kind\":\"text\",\"line\":\"You roll 6 and 2.\",\"line_number\":1,\"offset\":0}\n\
+{\"kind\":\"event\",\"event\":\"rolled\",\"line_number\":1,\"who\":\"player\",\"dice\":[6,2]}\n\
+{\"kind\":\"summary\",\"lines\":1,\"boards\":0,\"messages\":0,\"texts\":1,\"sent\":0,\"cut\":0,\"malformed\":0,\
+\"events\":1,\"games\":0,\"matches\":0}\n",
         err: b"",
     },
     Case {
@@ -217,7 +228,7 @@ fn assert_answered<N: Net<Listener = TcpListener, Stream = TcpStream>>(rt: &N, w
 }
 
 /// Words after the program's name, and the status.
-static ANSWERED: [(&[&str], u8); 8] = [
+static ANSWERED: [(&[&str], u8); 11] = [
     (&["--help"], 0),
     (&["help"], 0),
     (&["show", "--help"], 0),
@@ -226,6 +237,9 @@ static ANSWERED: [(&[&str], u8); 8] = [
     (&["dance"], 2),
     (&["loop", "more"], 2),
     (&["plays"], 2),
+    (&["connect", "localhost", "0", "ann"], 2),
+    (&["connect", "localhost", "65536", "ann"], 2),
+    (&["connect", "localhost", "4321"], 2),
 ];
 
 #[test]

@@ -1,9 +1,10 @@
 //! A server that asks for the login once more is told from one that asks once, however its bytes are cut.
 
-use crate::fibs_engine::questions::Questions;
+use crate::fibs_events::asking::Asking;
+use crate::fibs_lines::Questions;
 
 /// What a server sends, and whether it asks once more at its end.
-const ROWS: [(&[u8], bool); 18] = [
+const ROWS: [(&[u8], bool); 19] = [
     (b"", false),
     (b"login: ", false),
     (b"Hello.\r\n\r\nlogin: ", false),
@@ -19,10 +20,11 @@ const ROWS: [(&[u8], bool); 18] = [
     (b"my login: \r\nlogin: ", false),
     (b"login:  \r\nlogin: ", false),
     (b"login\r\nlogin: ", false),
-    // the user was greeted, by a line that begins with 1, behind the question or not
+    // the user was greeted, by message 1, behind the question or not
     (b"login: 1 ann 1041253132 localhost\r\nlogin: \r\nlogin: ", false),
     (b"login: \r\n1 ann 1041253132 localhost\r\nlogin: ", false),
-    (b"11 bob\r\nlogin: \r\nlogin: ", false),
+    (b"11 bob\r\nlogin: \r\nlogin: ", true),
+    (b"1\r\nlogin: \r\nlogin: ", true),
     (b"x1 ann\r\nlogin: \r\nlogin: ", true),
 ];
 
@@ -35,5 +37,12 @@ fn a_server_that_asks_once_more_is_told_from_one_that_asks_once() {
             questions.hear(&bytes[cut..]);
             assert_eq!(questions.is_again(), wanted, "{:?} cut at {cut}", bytes.escape_ascii().to_string());
         }
+    }
+}
+
+#[test]
+fn the_event_of_a_refused_login_is_told_of_the_same_bytes() {
+    for (bytes, wanted) in ROWS {
+        assert_eq!(Asking::new().hear(bytes).is_some(), wanted, "{:?}", bytes.escape_ascii().to_string());
     }
 }

@@ -1,6 +1,6 @@
 //! Devices whose calls a signal interrupts.
 use crate::fibs_engine::fault::EngineFault;
-use crate::fibs_engine::retrying::{RETRIES, read_retrying, write_retrying};
+use crate::fibs_engine::link::{RETRIES, read_retrying, write_retrying};
 use crate::fibs_show::show::show;
 use crate::fibs_test_tools::outcome::Outcome;
 use crate::fibs_test_tools::pipe::{After, Pipe};

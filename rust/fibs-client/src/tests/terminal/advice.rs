@@ -1,7 +1,10 @@
 //! What the screen says next, in each state of the conversation.
 
-use super::lines::{DOUBLED, MOVED, OVER, SETTINGS, TO_MOVE, TO_ROLL, WELCOME};
-use super::seats::{Cue, Scene, assert_scenes, plain_settings};
+use super::lines::{DOUBLED, MOVED, OVER, RESIGNS, SETTINGS, TO_MOVE, TO_ROLL, WELCOME};
+use super::seats::{Cue, Scene, assert_ends, assert_scenes, plain_settings};
+
+/// What the server says when a match goes on that was saved.
+const RESUMED: &[u8] = b"bob has joined you. Your running match was loaded.\r\n";
 
 /// The first board, on which the cube was turned by a double that was accepted.
 const TAKEN: &[u8] =
@@ -10,6 +13,9 @@ const TAKEN: &[u8] =
 /// A game that is over, and the match with it.
 const WON: &[u8] =
     b"board:You:bob:3:3:1:0:-2:0:0:0:0:5:0:3:0:0:0:-5:5:0:0:0:-3:0:-5:0:0:0:0:2:0:0:0:0:0:0:1:1:1:0:1:-1:0:25:0:0:0:0:2:0:0:0\r\n";
+
+/// What the server says of that match.
+const WON_MATCH: &[u8] = b"You win the 3 point match 3-1 .\r\n";
 
 /// The settings of a user for whom the server plays by itself: automove; automove and greedy.
 const AUTOMOVE: &[u8] = b"2 ann 1 1 0 1 0 0 1 1 0 0 1 0 1 1500.00 0 0 none 0 0 UTC\r\n";
@@ -216,7 +222,11 @@ static RESIGNED: [Scene; 5] = [
         "No board shows it yet. [7 NotYours]\nbob offers to resign: accept, or reject.\n",
     ),
     (
-        &[Cue::Hears(b"bob wants to resign. You will win 1 point.\r\n"), Cue::Rests],
+        &[
+            Cue::Hears(b"It's your turn to roll or double.\r\n"),
+            Cue::Hears(b"bob wants to resign. You will win 1 point.\r\n"),
+            Cue::Rests,
+        ],
         "bob offers to resign: accept, or reject.\nYour turn: roll, or double.\n",
     ),
     (
@@ -228,6 +238,106 @@ static RESIGNED: [Scene; 5] = [
         "bob waits for your answer: accept, or reject.\n",
     ),
 ];
+
+/// A match is taken up while an offer to resign is open, and its board shows that as a turn given away: before the text
+/// comes, once, twice, and after it. Only if a text has said that it is the user's turn is that named as well.
+static GIVEN_AWAY: [Scene; 6] = [
+    (
+        &[Cue::Hears(RESUMED), Cue::Hears(TO_ROLL), Cue::Hears(RESIGNS), Cue::Rests],
+        "You will win 1 point.\nbob offers to resign: accept, or reject.\n",
+    ),
+    (
+        &[Cue::Hears(RESUMED), Cue::Hears(TO_ROLL), Cue::Hears(TO_ROLL), Cue::Rests, Cue::Hears(RESIGNS), Cue::Rests],
+        "You will win 1 point.\nbob offers to resign: accept, or reject.\n",
+    ),
+    (
+        &[
+            Cue::Hears(RESUMED),
+            Cue::Hears(TO_ROLL),
+            Cue::Hears(RESIGNS),
+            Cue::Rests,
+            Cue::Types(b"board"),
+            Cue::Hears(TO_ROLL),
+            Cue::Rests,
+        ],
+        " You roll, or double, or resign.\nbob offers to resign: accept, or reject.\n",
+    ),
+    (
+        &[Cue::Hears(RESUMED), Cue::Hears(RESIGNS), Cue::Hears(TO_ROLL), Cue::Rests],
+        " You roll, or double, or resign.\nbob offers to resign: accept, or reject.\n",
+    ),
+    (
+        &[Cue::Hears(RESUMED), Cue::Hears(TO_MOVE), Cue::Hears(RESIGNS), Cue::Rests],
+        "bob offers to resign: accept, or reject.\nYour move, as in: move 24-22 24-18\n",
+    ),
+    (
+        &[
+            Cue::Hears(RESUMED),
+            Cue::Hears(TO_ROLL),
+            Cue::Hears(b"It's your turn to roll or double.\r\n"),
+            Cue::Hears(RESIGNS),
+            Cue::Rests,
+        ],
+        "bob offers to resign: accept, or reject.\nYour turn: roll, or double.\n",
+    ),
+];
+
+#[test]
+fn a_turn_that_is_given_away_is_not_advised() {
+    assert_scenes(plain_settings(), &GIVEN_AWAY);
+}
+
+/// How the picture of the first board ends.
+const PICTURE_END: &str = "   O You\n You roll, or double, or resign.\n";
+
+/// Before that text the server says who has the turn: if it is the opponent, a board that gives it to the user may show
+/// an offer, and nothing is said of the turn by itself. What the server says next of it counts.
+static HIS_TURN: [Scene; 6] = [
+    (&[Cue::Hears(RESUMED), Cue::Hears(b"turn: bob\r\n"), Cue::Hears(TO_ROLL), Cue::Rests], PICTURE_END),
+    (&[Cue::Hears(RESUMED), Cue::Hears(b"turn: bob.\r\n"), Cue::Hears(TO_ROLL), Cue::Rests], PICTURE_END),
+    (
+        &[
+            Cue::Hears(RESUMED),
+            Cue::Hears(b"turn: bob\r\n"),
+            Cue::Hears(TO_ROLL),
+            Cue::Rests,
+            Cue::Types(b"help"),
+            Cue::Rests,
+        ],
+        "about a word.\nbob may wait for your answer: accept, or reject.\nIf the game goes on: roll\n",
+    ),
+    (
+        &[
+            Cue::Hears(RESUMED),
+            Cue::Hears(b"turn: bob\r\n"),
+            Cue::Hears(TO_ROLL),
+            Cue::Rests,
+            Cue::Hears(RESIGNS),
+            Cue::Rests,
+        ],
+        "You will win 1 point.\nbob offers to resign: accept, or reject.\n",
+    ),
+    (
+        &[
+            Cue::Hears(RESUMED),
+            Cue::Hears(b"turn: bob\r\n"),
+            Cue::Hears(TO_ROLL),
+            Cue::Rests,
+            Cue::Hears(b"It's your turn to roll or double.\r\n"),
+            Cue::Rests,
+        ],
+        " You roll, or double, or resign.\nYour turn: roll, or double.\n",
+    ),
+    (
+        &[Cue::Hears(RESUMED), Cue::Hears(b"turn: ann\r\n"), Cue::Hears(TO_ROLL), Cue::Rests],
+        " You roll, or double, or resign.\nYour turn: roll, or double.\n",
+    ),
+];
+
+#[test]
+fn a_turn_that_the_server_calls_his_is_not_advised() {
+    assert_scenes(plain_settings(), &HIS_TURN);
+}
 
 #[test]
 fn an_offer_to_resign_is_answered() {
@@ -488,4 +598,57 @@ static LOGINS: [Scene; 6] = [
 #[test]
 fn a_login_leads_on() {
     assert_scenes(plain_settings(), &LOGINS);
+}
+
+/// What is typed after a match leads on to the next one: the row of what next comes again, but not by itself. `accept` is
+/// refused as before, if an invitation waits.
+static AFTER_A_MATCH: [Scene; 5] = [
+    (
+        &[Cue::Hears(WON), Cue::Hears(WON_MATCH), Cue::Rests, Cue::Types(b"r"), Cue::Rests],
+        "You are in no match: invite NAME 5 begins one. [7 NotYours]\n\
+         invite bob 3 plays another match; players ready lists others.\n",
+    ),
+    (
+        &[
+            Cue::Hears(WON),
+            Cue::Hears(WON_MATCH),
+            Cue::Rests,
+            Cue::Types(b"board"),
+            Cue::Hears(b"** You're not playing.\r\n"),
+            Cue::Rests,
+        ],
+        "** You're not playing.\ninvite bob 3 plays another match; players ready lists others.\n",
+    ),
+    (
+        &[Cue::Hears(WON), Cue::Hears(WON_MATCH), Cue::Rests, Cue::Types(b"go"), Cue::Rests],
+        "\nYou are in no match: invite NAME 5 begins one.\n\
+         invite bob 3 plays another match; players ready lists others.\n",
+    ),
+    (
+        &[Cue::Hears(WON), Cue::Hears(WON_MATCH), Cue::Rests, Cue::Hears(b"** 1 user heard you.\r\n"), Cue::Rests],
+        "lists others.\n** 1 user heard you.\n",
+    ),
+    (
+        &[
+            Cue::Hears(WON),
+            Cue::Hears(WON_MATCH),
+            Cue::Rests,
+            Cue::Hears(b"eve wants to play a 3 point match with you.\r\n"),
+            Cue::Hears(b"Type 'join eve' to accept.\r\n"),
+            Cue::Types(b"r"),
+            Cue::Rests,
+        ],
+        "You are in no match: invite NAME 5 begins one. [7 NotYours]\nYou are invited: join eve\n",
+    ),
+];
+
+#[test]
+fn what_is_typed_after_a_match_leads_on() {
+    assert_scenes(plain_settings(), &AFTER_A_MATCH);
+}
+
+#[test]
+fn go_before_a_match_speaks_of_no_board() {
+    const ROW: &str = "from localhost.\nYou are in no match: invite NAME 5 begins one.\n";
+    assert_ends(plain_settings(), &[Cue::Hears(WELCOME), Cue::Hears(SETTINGS)], &[Cue::Types(b"go"), Cue::Rests], ROW);
 }

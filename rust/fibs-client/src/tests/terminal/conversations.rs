@@ -50,7 +50,7 @@ fn a_turn_shows_one_picture() {
 static CONNECTIONS: [Scene; 7] = [
     (
         &[Cue::Loses, Cue::Opens, Cue::Hears(b"\r\n"), Cue::Hears(b"login: "), Cue::Rests, Cue::Rests],
-        "connected to fibs.com:4321\nNot logged in: wrong name or password? quit, and begin again.\n",
+        "connected to fibs.com:4321\nNot logged in: wrong name or password? If nothing follows, type quit.\n",
     ),
     (
         &[
@@ -78,7 +78,7 @@ static CONNECTIONS: [Scene; 7] = [
             Cue::Rests,
             Cue::Rests,
         ],
-        "Not logged in: wrong name or password? quit, and begin again.\ncarol logs in.\n",
+        "Not logged in: wrong name or password? If nothing follows, type quit.\ncarol logs in.\n",
     ),
     (&[Cue::Loses, Cue::Types(b"roll")], "ends\nThere is no connection: type open. [2 Offline]\n"),
     (

@@ -1,7 +1,7 @@
 //! How a game ended, in words.
 
-use super::lines::{SETTINGS, WELCOME};
-use super::seats::{Cue, Scene, assert_scenes, plain_settings};
+use super::lines::{OVER, SETTINGS, TO_ROLL, WELCOME};
+use super::seats::{Cue, Scene, assert_ends, assert_scenes, plain_settings};
 
 /// A board at cube 2, and the one after the player has won its game.
 const AT_TWO: &[u8] =
@@ -32,4 +32,52 @@ static ENDINGS: [Scene; 4] = [
 #[test]
 fn the_end_of_a_game_is_told() {
     assert_scenes(plain_settings(), &ENDINGS);
+}
+
+/// A board with other fields in place of the name, the length and the scores; at its end with another cube.
+fn with(line: &[u8], fields: &str, cube: &str) -> String {
+    let text = String::from_utf8(line.to_vec()).expect("ASCII");
+    let front = text.find(":0:-2:").expect("it has places");
+    format!("board:You:{fields}{}", &text[front..]).replace(":0:0:0:0:1:1:1:0:", &format!(":0:0:0:0:{cube}:1:1:0:"))
+}
+
+/// The boards before and after the end of a game, by their first fields and the cube, and the row that tells it.
+static SCORES: [(&str, &str, &str, &str); 7] = [
+    ("bob:3:2:1", "bob:3:4:1", "1", "You win the game by a gammon, and 2 points, and the 3 point match 4-1.\n"),
+    ("bob:3:2:2", "bob:3:2:4", "1", "bob wins the game by a gammon, and 2 points, and the 3 point match 4-2.\n"),
+    ("bob:9999:0:1", "bob:9999:1:1", "1", "You win the game, and 1 point. You 1, bob 1.\n"),
+    ("bob:9:0:1", "bob:9:4:1", "1", "You win the game, and 4 points. You 4, bob 1 of 9.\n"),
+    ("bob:9:0:1", "bob:9:3:1", "1", "You win the game by a backgammon, and 3 points. You 3, bob 1 of 9.\n"),
+    ("bob:99:0:1", "bob:99:7:1", "2", "You win the game, and 7 points. You 7, bob 1 of 99.\n"),
+    (
+        "bob_bob_bob_bob_bob_bob_:999:0:0",
+        "bob_bob_bob_bob_bob_bob_:999:0:192",
+        "64",
+        "bob_bob_bob_bob_bob_bob_ wins the game by a backgammon, and 192 points.\n\
+You 0, bob_bob_bob_bob_bob_bob_ 192 of 999.\n",
+    ),
+];
+
+#[test]
+fn points_are_those_of_the_cube() {
+    for (before, after, cube, row) in SCORES {
+        let (before, after) = (with(TO_ROLL, before, cube), with(OVER, after, cube));
+        let start = [Cue::Hears(WELCOME), Cue::Hears(SETTINGS), Cue::Hears(before.as_bytes())];
+        assert_ends(plain_settings(), &start, &[Cue::Hears(after.as_bytes())], row);
+    }
+}
+
+/// If the score says nothing, who has borne off all his checkers has won.
+#[test]
+fn who_has_borne_off_all_has_won() {
+    for (off, row) in [
+        ("15:3", "\nYou win the game. You 0, bob 1 of 3.\n"),
+        ("3:15", "\nbob wins the game. You 0, bob 1 of 3.\n"),
+        ("3:3", "\nThe game is over. You 0, bob 1 of 3.\n"),
+    ] {
+        let places = "0:".repeat(26);
+        let line = format!("board:You:bob:3:0:1:{places}0:0:0:0:0:1:1:1:0:1:-1:0:25:{off}:0:0:0:0:0:0\r\n");
+        let start = [Cue::Hears(WELCOME), Cue::Hears(SETTINGS)];
+        assert_ends(plain_settings(), &start, &[Cue::Hears(line.as_bytes())], row);
+    }
 }

@@ -197,8 +197,7 @@ static OF_THE_DAY: [Told; 2] = [
     (
         &[Cue::Hears(b"3\r\n"), Cue::Hears(b"4\r\n")],
         &[Cue::Hears(b"bob wants to resign. You will win 1 point.\r\n"), Cue::Rests],
-        "bob wants to resign. You will win 1 point.\nbob offers to resign: accept, or reject.\nYour turn: \
-         roll, or double.\n",
+        "bob wants to resign. You will win 1 point.\nbob offers to resign: accept, or reject.\n",
     ),
 ];
 

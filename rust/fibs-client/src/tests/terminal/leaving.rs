@@ -3,9 +3,10 @@
 use super::lines::{FIRST_BOARD, MOVED, SETTINGS, TO_ROLL, WELCOME};
 use super::seats::{Cue, Cue::Hears, Cue::Types, assert_wanted, ends_after, plain_settings, shown};
 
-const QUIT: &str = "You are in a match with bob, which most servers save: quit again leaves.\n";
+const QUIT: &str =
+    "You are in a match with bob: quit again leaves.\nMost servers save it: invite bob then resumes it.\n";
 
-const BYE: &str = "You are in a match with bob, which most servers save: bye again leaves.\n";
+const BYE: &str = "You are in a match with bob: bye again leaves.\nMost servers save it: invite bob then resumes it.\n";
 
 /// The last board of a match, and that of a game in it.
 const MATCH_OVER: &[u8] =
@@ -29,8 +30,8 @@ static LEAVES: [LeaveRow; 25] = [
     (&[Types(b"quit"), Types(b"quit")], QUIT, true),
     (&[Types(b" QUIT "), Types(b"Quit")], QUIT, true),
     (&[Types(b"bye")], BYE, false),
-    (&[Types(b"bye"), Types(b"bye")], "leaves.\nsent bye\n", false),
-    (&[Types(b"Bye"), Types(b"BYE ")], "leaves.\nsent bye\n", false),
+    (&[Types(b"bye"), Types(b"bye")], "resumes it.\nsent bye\n", false),
+    (&[Types(b"Bye"), Types(b"BYE ")], "resumes it.\nsent bye\n", false),
     // any other line between the two forgets the first
     (&[Types(b"quit"), Types(b"talk"), Types(b"quit")], QUIT, false),
     (&[Types(b"quit"), Types(b"roll"), Types(b"quit")], QUIT, false),
@@ -94,11 +95,12 @@ fn who_is_in_no_match_is_not_asked() {
     assert_leaves(&[&login[..], &[Types(b"bye")]].concat(), "\nsent bye\n", false);
 }
 
-/// Of a long name so much is said that it fits.
+/// Of a long name so much is said that it fits, but in the line that is to be typed it is whole.
 #[test]
 fn a_long_name_is_cut() {
     let before = [Hears(WELCOME), Hears(SETTINGS), Hears(LONG), Types(b"quit")];
     let text = shown(plain_settings(), &[], &before);
-    let row = "You are in a match with a_name_that_is_longer_th, which most servers save: quit\nagain leaves.\n";
+    let row = "You are in a match with a_name_that_is_longer_th: quit again leaves.\n\
+               Most servers save it: invite a_name_that_is_longer_than_a_row_shows then\n resumes it.\n";
     assert_wanted(text.ends_with(row), &text, row);
 }

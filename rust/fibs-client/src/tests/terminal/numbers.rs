@@ -167,6 +167,9 @@ fn a_board_that_is_watched_has_the_numbers_of_the_player_below() {
     assert_eq!(shows(&watched), shows(&other));
     let start = [Cue::Hears(WELCOME), Cue::Hears(SETTINGS), Cue::Hears(&other)];
     assert_ends(own_settings(), &start, &[Cue::Hears(b"bob moves 12-15 .\r\n")], "bob moves 13-10 .\n");
+    // a move of another game is not turned by this board
+    let carls = "carl moves 12-15 . (the server's numbers)\n";
+    assert_ends(own_settings(), &start, &[Cue::Hears(b"carl moves 12-15 .\r\n")], carls);
 }
 
 /// What is known of the user's own match says nothing of a game of others, of which no board has come.

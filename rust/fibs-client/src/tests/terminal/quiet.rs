@@ -119,6 +119,14 @@ fn a_login_ends_by_one_row() {
 
 /// What the client asked once is answered once; what the user asks is shown, and any other text.
 #[test]
+fn a_board_that_is_watched_ends_a_login() {
+    let watched = b"board:dave:eve:5:0:0:0:-2:0:0:0:0:5:0:3:0:0:0:-5:5:0:0:0:-3:0:-5:0:0:0:0:2:0:-1:0:0:0:0:1:1:1:0:1:-1:0:25:0:0:0:0:2:0:0:0\r\n";
+    let steps: Vec<Cue<'_>> = hears(LISTED).into_iter().chain(hears(watched)).collect();
+    let text = shown(plain_settings(), &[], &steps);
+    assert_wanted(text.ends_with(ENDED), &text, ENDED);
+}
+
+#[test]
 fn only_answers_to_the_clients_own_commands_are_left_out() {
     let again = str::from_utf8(ANSWERS).expect("it is a text").replace('\r', "");
     assert_login(&[LISTED, ANSWERS, ANSWERS], &format!("{ENDED}{again}"));

@@ -8,23 +8,28 @@ use std::cell::Cell;
 
 const CLOSED: &str = "lost: open connects again, quit ends\n";
 
+const LEFT: &str = "closed, as you asked: open connects again, quit ends\n";
+
 /// What follows what the user has typed, and by which row it ends.
 type LossRow = (&'static [Cue<'static>], &'static str);
 
 /// It is off unless it is asked for, and after the user has taken leave, has said that it stays closed, or two logins
 /// have failed one after the other.
-static LOSSES: [LossRow; 14] = [
+static LOSSES: [LossRow; 16] = [
     (&[Cue::Loses], CLOSED),
     (&[Types(b"reconnect"), Cue::Loses], "lost: connecting again in 1 s; stay leaves it closed, quit ends\n"),
     (&[Types(b"RECONNECT "), Types(b"stay"), Cue::Loses], CLOSED),
-    (&[Types(b"reconnect"), Types(b"bye"), Types(b"bye"), Cue::Loses], CLOSED),
+    (&[Types(b"reconnect"), Types(b"bye"), Types(b"bye"), Cue::Loses], LEFT),
     // the first one has only asked
     (
         &[Types(b"reconnect"), Types(b"bye"), Cue::Loses],
         "lost: connecting again in 1 s; stay leaves it closed, quit ends\n",
     ),
-    (&[Types(b"reconnect"), Types(b"send exit"), Cue::Loses], CLOSED),
-    (&[Types(b"reconnect"), Types(b"send quit"), Cue::Loses], CLOSED),
+    (&[Types(b"reconnect"), Types(b"send exit"), Cue::Loses], LEFT),
+    (&[Types(b"reconnect"), Types(b"send quit"), Cue::Loses], LEFT),
+    (&[Types(b"bye"), Types(b"bye"), Cue::Loses], LEFT),
+    // what was asked is no leave
+    (&[Types(b"bye"), Cue::Loses], CLOSED),
     // what was typed on the connection before counts no more
     (
         &[Types(b"reconnect"), Types(b"bye"), Types(b"bye"), Cue::Loses, Cue::Opens, Cue::Hears(WELCOME), Cue::Loses],
@@ -117,7 +122,7 @@ fn a_wait_is_measured_from_its_beginning() {
     assert!(due.is_some());
     steps.extend([Cue::Rests, Types(b"players"), Cue::Rests]);
     assert_eq!(due_by(Passing(Cell::new(0)), &steps), due);
-    for (lasted, wait) in [(30, 2), (80, 1)] {
+    for (lasted, wait) in [(30, 2), (57, 2), (58, 1), (80, 1)] {
         let mut steps = steps.clone();
         steps.extend([Types(b"open"), Cue::Opens, Cue::Hears(WELCOME)]);
         steps.extend(std::iter::repeat_n(Cue::Hears(SETTINGS), lasted));
@@ -125,5 +130,54 @@ fn a_wait_is_measured_from_its_beginning() {
         let text = shown_by(Passing(Cell::new(0)), &steps);
         let row = format!("lost: connecting again in {wait} s; stay leaves it closed, quit ends\n");
         assert_wanted(text.ends_with(&row), &text, &row);
+    }
+}
+
+/// Each connection lasts from when it was made: one that was short is tried again later than the one before, however long
+/// that was.
+#[test]
+fn a_connection_lasts_from_when_it_was_made() {
+    let mut steps = FIRST_BOARD.to_vec();
+    steps.push(Types(b"reconnect"));
+    steps.extend(std::iter::repeat_n(Cue::Hears(SETTINGS), 80));
+    steps.extend([Cue::Loses, Types(b"open"), Cue::Opens, Cue::Hears(WELCOME), Cue::Loses]);
+    let text = shown_by(Passing(Cell::new(0)), &steps);
+    let row = "lost: connecting again in 2 s; stay leaves it closed, quit ends\n";
+    assert_wanted(text.ends_with(row), &text, row);
+}
+
+/// What is typed as `open` ends the wait, of which a new one begins when that fails.
+#[test]
+fn open_ends_the_wait_at_once() {
+    let mut steps = FIRST_BOARD.to_vec();
+    steps.extend([Types(b"reconnect"), Cue::Loses, Cue::Rests]);
+    let due = due_by(Passing(Cell::new(0)), &steps);
+    steps.extend([Types(b"open"), Cue::Rests]);
+    assert!(due_by(Passing(Cell::new(0)), &steps) > due, "a wait that has ended goes on");
+}
+
+/// A clock on which so many milliseconds pass each time that one looks, after a start.
+struct Ticking(Cell<u64>, u64);
+
+impl Clock for Ticking {
+    fn monotonic(&self) -> io::Result<Duration> {
+        self.0.set(self.0.get() + self.1);
+        Ok(Duration::from_millis(self.0.get()))
+    }
+
+    fn since_1970(&self) -> io::Result<Duration> {
+        Ok(Duration::from_secs(0))
+    }
+}
+
+/// That a login was refused is said two seconds after the connection was made, if others come and no greeting does.
+#[test]
+fn a_server_has_two_seconds_to_greet() {
+    const ROW: &str = "Not logged in: wrong name or password? If nothing follows, type quit.\n";
+    let steps = [Cue::Opens, Cue::Hears(b"7 carol carol logs in.\r\n"), Cue::Rests];
+    // three looks: the connection is made at the first, and the user may type at the third
+    for (millis, is_said) in [(1000, true), (999, false), (500, false)] {
+        let text = shown_by(Ticking(Cell::new(60_000), millis), &steps);
+        assert_eq!(text.ends_with(ROW), is_said, "{millis} ms: {text}");
     }
 }

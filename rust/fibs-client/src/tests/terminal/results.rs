@@ -135,7 +135,7 @@ fn the_line_that_invites_to_another_match_is_whole_in_a_row() {
     let begins = format!("** Player {LONG} has joined you for a 9998 point match.\r\n");
     let ends = "You win the 9998 point match 9998-1 .\r\n";
     let text = shown(plain_settings(), &[], &[Hears(begins.as_bytes()), Hears(ends.as_bytes()), Cue::Rests]);
-    let rows = format!("\ninvite {LONG} 9998\nplays another match; players ready lists others.\n");
+    let rows = format!("\ninvite {LONG} 9998\n plays another match; players ready lists others.\n");
     assert_wanted(text.ends_with(&rows), &text, &rows);
     assert!(text.lines().all(|row| row.len() <= 79), "{text}");
 }
@@ -161,7 +161,7 @@ type RecordScene = (&'static [Cue<'static>], &'static str);
 
 /// What is kept is the match that has ended: the board that came last counts before the text, if the match is over on
 /// it, and no board of another match does.
-static RECORDS: [RecordScene; 12] = [
+static RECORDS: [RecordScene; 13] = [
     (
         &[Hears(SETTINGS), Hears(BEGINS), Hears(FIRST), Hears(LAST), Hears(WINS), Hears(RATED), Hears(RATED)],
         "2003-01-05 13:07\tbob\t3\t3-1\t1500.00\t1509.98\t3\n",
@@ -210,6 +210,11 @@ static RECORDS: [RecordScene; 12] = [
         "2003-01-05 13:07\tbob\t3\t3-1\t-\t-\t-\n",
     ),
     (&[Hears(FIRST), Hears(b"** Player bob has left the game. The game was saved.\r\n"), Hears(WINS)], ""),
+    // the rating before it is not known
+    (
+        &[Hears(WELCOME), Hears(BEGINS), Hears(FIRST), Hears(WINS), Hears(RATED)],
+        "2003-01-05 13:07\tbob\t3\t3-1\t-\t1509.98\t3\n",
+    ),
     // a text that is no end of a match, or has no score of one
     (&[Hears(FIRST), Hears(b"You win the 3 point match 1-0 .\r\n"), Hears(RATED)], ""),
     (&[Hears(b"3\r\n"), Hears(FIRST), Hears(WINS), Hears(b"4\r\n")], ""),
@@ -288,7 +293,7 @@ const FILE: &str = "2003-01-01 10:00\tbob\t5\t5-3\t1500.00\t1509.98\t5\n\
     2003-01-03 10:00\tbob\t3\t3-1\t-\t1500.00\t3\textra\n";
 
 /// What is typed, and the rows that answer it.
-static LISTS: [(&[u8], &str); 4] = [
+static LISTS: [(&[u8], &str); 6] = [
     (
         b"matches bob",
         "ended             opponent              score       rating
@@ -305,6 +310,20 @@ bob: 1 won, 1 lost.
 2003-01-02 10:00  bobby                 1-0 of 1
 2003-01-02 10:00  Bob                   1-0 of 1    1.50
 4 matches: 3 won, 1 lost.
+",
+    ),
+    (
+        b"matches Bob",
+        "ended             opponent              score       rating
+2003-01-02 10:00  Bob                   1-0 of 1    1.50
+Bob: 1 won, 0 lost.
+",
+    ),
+    (
+        b"MATCHES Bob ",
+        "ended             opponent              score       rating
+2003-01-02 10:00  Bob                   1-0 of 1    1.50
+Bob: 1 won, 0 lost.
 ",
     ),
     (b"matches bo", "No match with bo is recorded.\n"),
@@ -339,4 +358,29 @@ fn a_screen_of_matches_is_listed() {
     assert_eq!(rows[2], "2003-01-01 10:00  bob                   99-0 of 85");
     assert_eq!(rows[17], "2003-01-05 13:07  bob                   3-1 of 3");
     assert_eq!(rows[18], "bob: 101 won, 0 lost.");
+}
+
+/// A match that waits for its rating is listed behind a line that has no end.
+#[test]
+fn a_match_is_listed_after_half_a_line() {
+    let folder = folder("behind");
+    fs::create_dir_all(&folder).expect("it is made");
+    fs::write(folder.join("matches"), FILE.lines().next().expect("it has a line")).expect("it is written");
+    let steps = [Hears(FIRST), Hears(WINS), Cue::Types(b"matches")];
+    let text = shown_with_record(folder.to_str().expect("it is UTF-8"), &steps);
+    let _gone = fs::remove_dir_all(&folder);
+    assert_wanted(text.ends_with("\n2 matches: 2 won, 0 lost.\n"), &text, "two matches");
+}
+
+/// Of a record of more than four megabytes the last part is read.
+#[test]
+fn the_last_matches_of_a_long_record_are_listed() {
+    let folder = folder("long");
+    fs::create_dir_all(&folder).expect("it is made");
+    let line = "2003-01-01 10:00\tbob\t1\t1-0\t-\t-\t-\n";
+    let last = "2003-01-02 10:00\teve\t1\t1-0\t-\t-\t-\n";
+    fs::write(folder.join("matches"), line.repeat((5 << 20) / line.len()) + last).expect("it is written");
+    let text = shown_with_record(folder.to_str().expect("it is UTF-8"), &[Cue::Types(b"matches eve")]);
+    let _gone = fs::remove_dir_all(&folder);
+    assert_wanted(text.ends_with("\neve: 1 won, 0 lost.\n"), &text, "the last match");
 }

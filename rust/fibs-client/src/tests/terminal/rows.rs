@@ -1,5 +1,6 @@
 //! Rows that are broken or cut: by the columns that their letters take, and between letters.
 
+use crate::fibs_picture::in_words::append_rows_of;
 use crate::fibs_wording::environment::broken::{break_at_spaces, front_of};
 
 /// Texts, the columns that they may take, and the rows that are made of them.
@@ -17,6 +18,27 @@ fn a_row_is_broken_by_the_columns_of_its_letters() {
         let mut broken = text.as_bytes().to_vec();
         break_at_spaces(0, *columns, &mut broken);
         assert_eq!(broken.as_slice(), rows.as_bytes(), "{text} in {columns} columns");
+    }
+}
+
+/// Texts of the terminal's own words, the columns that they may take, and the rows that are made of them.
+static OWN_ROWS: [(&str, usize, &str); 8] = [
+    ("", 8, ""),
+    ("one two three", 8, "one two\n three\n"),
+    ("one two three\n", 8, "one two\n three\n"),
+    ("one\ntwo three four\n\n", 8, "one\ntwo\n three\n four\n\n"),
+    ("  one two", 4, " \n one\n two\n"),
+    ("incomprehensibilities", 8, "incomprehensibilities\n"),
+    ("an incomprehensibility", 8, "an\n incomprehensibility\n"),
+    ("one two", 7, "one two\n"),
+];
+
+#[test]
+fn what_goes_on_of_a_row_begins_with_its_space() {
+    for (text, columns, rows) in &OWN_ROWS {
+        let mut said = b"before\n".to_vec();
+        append_rows_of(text.as_bytes(), *columns, &mut said).unwrap();
+        assert_eq!(said, [b"before\n", rows.as_bytes()].concat(), "{text:?} in {columns} columns");
     }
 }
 

@@ -25,7 +25,7 @@ const PICTURE: &str = " +13-14-15-16-17-18-+---+19-20-21-22-23-24-+   X bob
  +12-11-10--9--8--7-+---+-6--5--4--3--2--1-+   O You
 ";
 
-const NOT_CONFIRMED: &str = "Sent, and not confirmed by the server yet.\n";
+const NOT_CONFIRMED: &str = "Sent, not confirmed by the server yet.\n";
 
 /// What follows after the move was sent.
 fn after_move(settings: Settings<'_>, steps: &[Cue<'_>]) -> String {
@@ -43,6 +43,9 @@ fn the_board_after_a_move_is_drawn_before_the_server_shows_it() {
     assert_eq!(after_move(plain_settings(), &[Cue::Rests, Cue::Rests]), ahead);
     let same = [Cue::Rests, Cue::Hears(AFTER), Cue::Rests];
     assert_eq!(after_move(plain_settings(), &same), format!("{ahead}bob's turn.\n"));
+    // the same move in another game is one more
+    let next = [same[0], same[1], Cue::Hears(TO_MOVE), Cue::Rests, Cue::Types(b"move 24-18 13-11"), Cue::Rests];
+    assert_eq!(after_move(plain_settings(), &next).matches(NOT_CONFIRMED).count(), 2);
 }
 
 /// If the server has shown it before, the board is its own.

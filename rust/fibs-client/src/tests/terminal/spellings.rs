@@ -108,7 +108,7 @@ fn moves_are_spelled_out() {
 fn what_is_said_of_a_line_that_is_no_move_is_spelled_in_narrow_rows() {
     let narrow = Settings { columns: 40, ..plain_settings() };
     let rows =
-        "24/18/13   one checker, two steps;\n24/13 too, if it can go one way only\nplays lists the legal moves.\n";
+        "\n  24/18/13   one checker, two steps;\n 24/13 too, if it can go one way only\nplays lists the legal moves.\n";
     assert_ends(narrow, &SHOWN, &[Cue::Types(b"move 9")], rows);
 }
 
@@ -119,7 +119,7 @@ fn the_legal_moves_are_listed_in_narrow_rows() {
         let before = [Cue::Hears(WELCOME), Cue::Hears(SETTINGS), Cue::Hears(board)];
         for typed in [&b"plays"[..], b"plays more"] {
             let said = shown_then(narrow, &before, &[Cue::Types(typed)]);
-            let wide: Vec<&str> = said.lines().filter(|row| row.len() > 40 && !row.starts_with("Your move")).collect();
+            let wide: Vec<&str> = said.lines().filter(|row| row.len() > 39).collect();
             assert!(wide.is_empty(), "{wide:?} at {}", line.escape_ascii());
         }
     }

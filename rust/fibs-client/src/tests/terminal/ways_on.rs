@@ -11,6 +11,8 @@ const MATCH_OVER: Cue<'static> = Cue::Hears(b"bob wins the 3 point match 3-0 .\r
 
 const YOU_DOUBLE: Cue<'static> = Cue::Hears(b"You double. Please wait for bob to accept or reject.\r\n");
 
+const YOUR_TURN: Cue<'static> = Cue::Hears(b"It's your turn to roll or double.\r\n");
+
 /// A way from the first board to each state.
 static WAYS: [(Standing, &[Cue<'static>]); 25] = [
     (Standing::Free, &[MATCH_OVER]),
@@ -21,11 +23,11 @@ static WAYS: [(Standing, &[Cue<'static>]); 25] = [
     (Standing::Refused, &[Cue::Types(b"double"), Cue::Hears(b"** You can't double.\r\n")]),
     (Standing::Same, &[Cue::Types(b"roll"), Cue::Hears(b"** You did already roll the dice.\r\n"), Cue::Hears(TO_ROLL)]),
     (Standing::Taken, &[Cue::Types(b"double"), Cue::Hears(b"bob accepts the double. The cube shows 2.\r\n")]),
-    (Standing::Due, &[Cue::Hears(b"It's your turn to roll or double.\r\n")]),
+    (Standing::Due, &[YOUR_TURN]),
     (Standing::Doubled, &[Cue::Hears(MOVED), Cue::Hears(b"bob doubles. Type 'accept' or 'reject'.\r\n")]),
-    (Standing::Resigned, &[RESIGNS]),
+    (Standing::Resigned, &[YOUR_TURN, RESIGNS]),
     (Standing::Conceded, &[Cue::Hears(MOVED), RESIGNS, Cue::Hears(TO_ROLL)]),
-    (Standing::Owed, &[Cue::Hears(b"** You have to accept or reject bob's offer.\r\n")]),
+    (Standing::Owed, &[YOUR_TURN, Cue::Hears(b"** You have to accept or reject bob's offer.\r\n")]),
     (
         Standing::Unsettled,
         &[

@@ -1,11 +1,15 @@
 //! Boards of both colours and directions, told in words, which were written by hand.
 
-use super::lines::{SETTINGS, TO_ROLL, WELCOME};
+use super::lines::{SETTINGS, TO_MOVE, TO_ROLL, WELCOME};
 use super::seats::{Cue, plain_settings, shown};
 use crate::fibs_fields::boards::Board;
 use crate::fibs_picture::in_words::{Told, append_told};
 use crate::fibs_position::{GameBoard, Numbers};
 use crate::fibs_wording::environment::Settings;
+
+/// The first board, on which the cube was turned by a double that was accepted.
+const TAKEN: &[u8] =
+    b"board:You:bob:3:0:1:0:-2:0:0:0:0:5:0:3:0:0:0:-5:5:0:0:0:-3:0:-5:0:0:0:0:2:0:1:0:0:0:0:2:0:1:0:1:-1:0:25:0:0:0:0:2:0:0:0\r\n";
 
 /// A board, and its rows.
 struct Rows {
@@ -252,4 +256,34 @@ fn what_is_new_of_a_board_is_told() {
     let wanted = "Score 0 to 1, match to 3.\nCube 1, in the middle.\n\
                   words, words score, words cube, words short, or words long.\n";
     assert!(rows.starts_with(wanted), "{rows}");
+}
+
+/// Who hears of a board only what is new hears no hint that says the same again: only if he asks. With whole boards, and
+/// with pictures, the hint comes. A board that is not told, since no checker has moved, is followed by it.
+#[test]
+fn a_hint_is_not_said_after_words_that_tell_the_same() {
+    let short = Settings { words: true, is_short: true, ..plain_settings() };
+    let long = Settings { words: true, ..plain_settings() };
+    let pictures = Settings { is_short: true, ..plain_settings() };
+    let start = [Cue::Hears(WELCOME), Cue::Hears(SETTINGS)];
+    let rows = |settings: Settings<'static>, steps: &[Cue<'_>]| shown(settings, &start, steps);
+    let hints = |text: &str| text.matches("Your turn: roll, or double.").count() + text.matches("as in: move").count();
+    let board = [Cue::Hears(TO_ROLL), Cue::Rests];
+    let rolled = [Cue::Types(b"r"), Cue::Hears(b"You roll 6 and 2.\r\n"), Cue::Hears(TO_MOVE), Cue::Rests];
+    for (settings, wanted) in [(short, [0, 0]), (long, [1, 2]), (pictures, [1, 2])] {
+        let texts = [rows(settings, &board), rows(settings, &[&board[..], &rolled].concat())];
+        assert_eq!(texts.each_ref().map(|text| hints(text)), wanted, "{texts:?}");
+    }
+    let asked = rows(short, &[&board[..], &[Cue::Types(b"help"), Cue::Rests]].concat());
+    assert!(asked.ends_with("\nYour turn: roll, or double.\n"), "{asked}");
+    let asked = rows(short, &[&board[..], &rolled, &[Cue::Types(b"move 24-23"), Cue::Rests]].concat());
+    assert!(asked.ends_with("\nYour move, as in: move 24-22 24-18\n"), "{asked}");
+    let accepted = [
+        Cue::Types(b"double"),
+        Cue::Hears(b"bob accepts the double. The cube shows 2.\r\n"),
+        Cue::Hears(TAKEN),
+        Cue::Rests,
+    ];
+    let taken = rows(short, &[&board[..], &accepted].concat());
+    assert!(taken.ends_with("\nYour turn: roll.\n"), "{taken}");
 }
