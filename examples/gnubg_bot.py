@@ -122,8 +122,9 @@ def line_for_gnubg(board):
     own, other = board.checkers, board.opponent_checkers
     places = [-other[25], *(own[place] - other[25 - place] for place in range(1, 25)), own[25]]
     turn, *flags = flags_for_gnubg(board)
-    numbers = [board.length, board.score, board.opponent_score, *places, turn, *board.dice, 0, 0, board.cube, *flags,
-               1, -1, 0, 25, own[0], other[0], own[25], other[25], 0, 0, board.field(52), 0]
+    numbers = [board.length or fibs.UNLIMITED, board.score, board.opponent_score, *places, turn,
+               *(board.dice or (0, 0)), 0, 0, board.cube, *flags, 1, -1, 0, 25, own[0], other[0], own[25], other[25],
+               0, 0, board.field(52), 0]
     return b':'.join([b'board:You:opponent', *(b'%d' % number for number in numbers)])
 
 
@@ -263,7 +264,7 @@ class Bot:
         """Looks for the other player: invites him to go on with the match, if he is there, or asks who is. Who is to
         join invites too, if no invitation comes: perhaps the match is over, and he did not see its end."""
         player, waited = self.players.get(self.other), time.monotonic() - self.sought
-        is_free = player and player.opponent in (b'-', self.options.name.encode())
+        is_free = player and player.opponent in (None, self.options.name.encode())
         if is_free and waited > (1 if self.points else 10) and (self.points or self.has_begun):
             self.sought = time.monotonic()
             self.command('invite ' + self.other)

@@ -15,15 +15,15 @@ import fibs
 YOU, OTHER = 'You', 'other'
 
 
-def line_of(own, other, dice=(0, 0)):
+def line_of(own, other, dice):
     """A board's line for the side that is to move: its checkers and those of the other side, each in its own
     numbering."""
     places = [0] * 26
     for place in range(1, 26):
         places[place] += own[place]
         places[25 - place] -= other[place]
-    numbers = [fibs.UNLIMITED, 0, 0, *places, 1, *dice, 0, 0, 1, 0, 0, 0, 1, -1, 0, 25, own[0], other[0], own[25],
-               other[25], 0, 0, 0, 0]
+    numbers = [fibs.UNLIMITED, 0, 0, *places, 1, *(dice or (0, 0)), 0, 0, 1, 0, 0, 0, 1, -1, 0, 25, own[0], other[0],
+               own[25], other[25], 0, 0, 0, 0]
     return b':'.join([b'board:You:other', *(b'%d' % number for number in numbers)])
 
 
@@ -54,7 +54,7 @@ def rolled(before, after):
     """Who rolled what, as a name and two dice, if the later board shows dice that the earlier one does not."""
     for who, old, dice in ((YOU, before and before.dice, after.dice),
                            (OTHER, before and before.opponent_dice, after.opponent_dice)):
-        if dice != (0, 0) and dice != old:
+        if dice and dice != old:
             return who, dice
     return None
 
@@ -63,7 +63,8 @@ def tell(before, after):
     """What the later of two boards shows."""
     names = {YOU: 'You', OTHER: after.opponent.decode('latin-1')}
     if before is None or before.opponent != after.opponent:
-        print('You play %s: %d points, %d to %d' % (names[OTHER], after.length, after.score, after.opponent_score))
+        length = '%d points' % after.length if after.length else 'unlimited'
+        print('You play %s: %s, %d to %d' % (names[OTHER], length, after.score, after.opponent_score))
         before = None
     elif (before.checkers, before.opponent_checkers) != (after.checkers, after.opponent_checkers):
         play = played(before, after)
@@ -73,7 +74,7 @@ def tell(before, after):
     roll = rolled(before, after)
     if roll:
         print('%s: roll %d and %d' % (names[roll[0]], *roll[1]))
-    if after.turn == 0 and (before is None or before.turn != 0):
+    if after.turn is None and (before is None or before.turn is not None):
         print('The game is over')
 
 
