@@ -40,7 +40,7 @@ import watching
 import whole
 
 # How many scenes are played at the same time: they wait most of the time. Those that measure are played alone.
-BESIDE = 6
+BESIDE = 8
 
 
 def tried(scene):
@@ -54,11 +54,13 @@ def tried(scene):
 
 def main():
     words = sys.argv[2:]
-    beside = (offers.SCENES + resuming.SCENES + refusals.SCENES + hints.SCENES + play.SCENES + logs.SCENES
-              + game.SCENES + company.SCENES + partners.SCENES + watching.SCENES + spoken.SCENES + babble.SCENES
-              + anything.SCENES + resized.SCENES + whole.SCENES + logins.SCENES + pictures.SCENES + records.SCENES
-               + numbers_of_places.SCENES + rated.SCENES + quiet.SCENES + leaving.SCENES + above.SCENES)
-    alone = escapes.SCENES + costs.SCENES + again.SCENES
+    # those that take longest are begun first
+    beside = (rated.SCENES + whole.SCENES + babble.SCENES + hints.SCENES + play.SCENES + logins.SCENES + records.SCENES
+              + game.SCENES + spoken.SCENES + costs.SCENES + again.SCENES + offers.SCENES + resuming.SCENES
+              + refusals.SCENES + logs.SCENES + company.SCENES + partners.SCENES + watching.SCENES + anything.SCENES
+              + resized.SCENES + pictures.SCENES + numbers_of_places.SCENES + quiet.SCENES + leaving.SCENES
+              + above.SCENES)
+    alone = escapes.SCENES + costs.MEASURED
     chosen = [[scene for scene in scenes if not words or any(word in scene.__name__ for word in words)]
               for scenes in (beside, alone)]
     failed = 0

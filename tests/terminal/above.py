@@ -160,7 +160,7 @@ def a_board_stands_above_only_where_it_may(server):
         ann.sees('x says: y')
         ann.type('board above')
         has_room = (columns, more) == (80, {})
-        answer = {(80, 24): 'The newest board stands above now', (40, 24): 'This terminal is too low for a board above'}
+        answer = {(80, 24): 'The newest board stands above now', (40, 24): 'This terminal is too low for a board'}
         wanted = answer[columns, rows] if not more else {'TERM': "can't keep a board above",
                                                          'FIBS_WORDS': 'Boards are told in words here'}[min(more)]
         ann.sees(wanted)
@@ -228,7 +228,7 @@ def the_board_after_a_move_is_drawn_ahead(server):
         ann.type('move 24-20 13-10')
         same('what was sent, not %s' % move, server.line(), 'move 24-20 13-10')
         rows = []
-        while rows[-1:] != ['Sent, and not confirmed by the server yet.']:
+        while rows[-1:] != ['Sent, not confirmed by the server yet.']:
             rows.append(ann.next_line())
         same('a picture in %r' % rows, rows[-14:-12] == [EDGE, ' | O           X    |   | X  O           O |     score 0'],
              wanted)

@@ -8,11 +8,13 @@ from costs import is_at_rest
 from escapes import BOARD
 from people import FIRST, OWN_INFO, WELCOME, Failed, begun, greeted, has_received, logs_in, same, with_listener
 
-from props.listener import Listener
+from props.listener import Listener, keeps_port
 
 LOST = 'lost: connecting again in %d s; stay leaves it closed, quit ends'
 
 CLOSED = 'lost: open connects again, quit ends'
+
+LEFT = 'closed, as you asked: open connects again, quit ends'
 
 def comes_after(server, seconds, began):
     """The next connection comes after so many seconds, and not before."""
@@ -73,24 +75,25 @@ def it_wakes_once_when_it_is_due(server):
     port = server.port
     began = time.monotonic()
     server.close()
-    ann.reads(LOST % 1)
-    for seconds, after in (2, 1), (4, 3), (8, 7):
-        ann.reads('no connection to 127.0.0.1:%d: connection refused; again in %d s, or stay' % (port, seconds))
-        is_not_before(after, began)
-    is_at_rest(ann, 4)
-    ann.type('stay')
-    ann.reads('stay: a connection that is lost stays closed until you type open.')
-    again = Listener(port)
-    is_at_rest(ann, 5)
-    again.is_alone()
-    ann.type('open')
-    logs_in(again)
-    is_greeted(again, ann)
-    again.drop()
-    ann.reads(CLOSED)
-    ann.quits()
-    ann.close()
-    again.close()
+    with keeps_port(port):
+        ann.reads(LOST % 1)
+        for seconds, after in (2, 1), (4, 3), (8, 7):
+            ann.reads('no connection to 127.0.0.1:%d: connection refused; again in %d s, or stay' % (port, seconds))
+            is_not_before(after, began)
+        is_at_rest(ann, 4)
+        ann.type('stay')
+        ann.reads('stay: a connection that is lost stays closed until you type open.')
+        again = Listener(port)
+        is_at_rest(ann, 5)
+        again.is_alone()
+        ann.type('open')
+        logs_in(again)
+        is_greeted(again, ann)
+        again.drop()
+        ann.reads(CLOSED)
+        ann.quits()
+        ann.close()
+        again.close()
 
 
 @with_listener
@@ -101,7 +104,7 @@ def it_is_not_opened_after_leave_was_taken(server):
     ann.type('bye')
     same('what is sent', server.line(), 'bye')
     server.drop()
-    ann.reads(CLOSED)
+    ann.reads(LEFT)
     ann.type('open')
     logs_in(server)
     server.drop()

@@ -1,5 +1,6 @@
 """Lists of players, talk that is kept, and the commands of the server that are words of the terminal."""
 
+import contextlib
 import os
 import pathlib
 import random
@@ -243,6 +244,66 @@ def settings_of_any_bytes_do_no_harm():
                 same('unread', "fibs: the settings of %s can't be read" % path in ' '.join(ann.lines()), True)
             ann.close()
             server.close()
+
+
+# The board after a move of the opponent.
+MOVED = BOARD.replace(':-5:5:0:0:0:-3:', ':-5:5:0:0:-1:-2:')
+
+
+@contextlib.contextmanager
+def seated(**more):
+    """Ann, and the server that has greeted her, at a terminal with such an environment."""
+    server = Listener()
+    ann = Person(server.port, **more)
+    server.accept()
+    server.line()
+    server.send(WELCOME, OWN_INFO % 'ann')
+    yield ann, server
+    ann.close()
+    server.close()
+
+
+@scene
+def the_last_of_two_settings_counts():
+    """How a board is told, and where it stands."""
+    with tempfile.TemporaryDirectory() as folder:
+        path = pathlib.Path(folder, 'config')
+        for settings, count in (b'words short\nwords long\n', 2), (b'words long\nwords short\n', 1):
+            path.write_bytes(settings)
+            with seated(FIBS_CONFIG=str(path)) as (ann, server):
+                server.send(BOARD)
+                ann.reads("Blots: yours none; bob's none.")
+                server.send(MOVED, '12 eve a word')
+                ann.reads('eve says: a word')
+                same('rows after %r' % settings, ann.screen().count('You go down, from 24 to 1.'), count)
+        for settings, stands in (b'board below\nboard above\n', True), (b'board above\nboard below\n', False):
+            path.write_bytes(settings)
+            with seated(FIBS_CONFIG=str(path), TERM='xterm', LINES='40') as (ann, server):
+                server.send(BOARD, '12 eve a word')
+                ann.reads('eve says: a word')
+                same('a board above after %r' % settings, '\x1b[1J' in ann.screen(), stands)
+
+
+@scene
+def settings_are_read_from_their_place():
+    """A file of 65,536 bytes, and not one byte more; where XDG_CONFIG_HOME says, before the home."""
+    with tempfile.TemporaryDirectory() as home:
+        places = [pathlib.Path(home, name, 'fibs', 'config') for name in ('there', '.config')]
+        for path in places:
+            path.parent.mkdir(parents=True)
+            path.write_text('no setting of %s\n' % path.parent.parent.name)
+        for more, path in ({'XDG_CONFIG_HOME': str(places[0].parent.parent)}, places[0]), ({}, places[1]):
+            with seated(**{'HOME': home, 'FIBS_CONFIG': None, 'XDG_CONFIG_HOME': None, **more}) as (ann, _):
+                ann.reads('Welcome, ann')
+                row = 'fibs: line 1 of %s is no setting: no setting of %s' % (path, path.parent.parent.name)
+                same('what is said', row in ' '.join(ann.lines()), True)
+        path = places[0]
+        for size, row in (1 << 16, 'fibs: line 2 of %s is no setting: dance'), (
+                (1 << 16) + 1, "fibs: the settings of %s can't be read"):
+            path.write_bytes(b'#'.ljust(size - 6, b'x') + b'\ndance')
+            with seated(FIBS_CONFIG=str(path)) as (ann, _):
+                ann.reads('Welcome, ann')
+                same('of %d bytes' % size, row % path in ' '.join(ann.lines()), True)
 
 
 @scene

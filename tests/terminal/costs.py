@@ -6,7 +6,7 @@ import statistics
 import time
 
 from escapes import BOARD
-from people import PASSWORD, Failed, Served, begun, greeted, leaves, logs_in, same, with_listener
+from people import PASSWORD, PATIENCE, Failed, Served, begun, greeted, leaves, logs_in, same, with_listener
 from terminals import RLWRAP, told
 
 from props import peeking
@@ -14,7 +14,7 @@ from props import peeking
 # Kilobytes of memory that a game may take at most.
 MEMORY = 3072
 
-ROUNDS = 200
+ROUNDS = 100
 
 
 def spent(ann):
@@ -22,16 +22,30 @@ def spent(ann):
     ticks of the processor that they took."""
     count, ticks = 0, 0
     for job in (ann.job, *ann.below()):
-        for thread in os.listdir('/proc/%d/task' % job):
-            with open('/proc/%d/task/%s/status' % (job, thread)) as status:
-                count += int(re.search(r'^voluntary_ctxt_switches:\s+(\d+)', status.read(), re.M)[1])
-        ticks += sum(map(int, told('/proc/%d/stat' % job)[11:13]))
+        try:
+            for thread in os.listdir('/proc/%d/task' % job):
+                with open('/proc/%d/task/%s/status' % (job, thread)) as status:
+                    count += int(re.search(r'^voluntary_ctxt_switches:\s+(\d+)', status.read(), re.M)[1])
+            ticks += sum(map(int, told('/proc/%d/stat' % job)[11:13]))
+        except OSError:
+            # it has just ended
+            continue
     return count, ticks
+
+
+def rests(ann):
+    """Waits until nothing was done for a while: all that it does by itself has been done."""
+    end, before, now = time.monotonic() + PATIENCE, None, spent(ann)
+    while before != now:
+        if time.monotonic() > end:
+            raise Failed('it never rests: %r wakes and ticks, then %r' % (before, now))
+        time.sleep(0.2)
+        before, now = now, spent(ann)
 
 
 def is_at_rest(ann, seconds):
     """Nothing happens, and nothing is done."""
-    time.sleep(1)
+    rests(ann)
     before = spent(ann)
     time.sleep(seconds)
     same('wakes, and ticks of the processor', spent(ann), before)
@@ -100,8 +114,8 @@ def to_the_first_row(server, kind):
     """The milliseconds from the end of the password to the first row."""
     ann = begun(server, kind, password=False)
     ann.sees('password: ')
-    # who types a password is slower than this
-    time.sleep(1)
+    # who types a password is slower than what is begun
+    rests(ann)
     began = time.monotonic()
     ann.type(PASSWORD)
     ann.sees('connected to')
@@ -163,5 +177,6 @@ def what_is_set_of_the_connection(server):
     ann.close()
 
 
-SCENES = [no_wakes_at_rest, no_wakes_after_a_loss, milliseconds, the_first_row_with_rlwrap, memory, a_dead_router_is_seen,
-          what_is_set_of_the_connection]
+SCENES = [no_wakes_at_rest, no_wakes_after_a_loss, memory, a_dead_router_is_seen, what_is_set_of_the_connection]
+# what they take of the clock is told
+MEASURED = [milliseconds, the_first_row_with_rlwrap]

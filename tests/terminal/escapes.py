@@ -257,6 +257,7 @@ ENVIRONMENTS = [
     ({'LC_ALL': 'C', 'LC_CTYPE': 'C.UTF-8', 'LANG': 'C.UTF-8'}, False, ESCAPED, THEN),
     ({'LC_ALL': '', 'LC_CTYPE': '', 'LANG': 'C.UTF-8'}, False, AS_IT_IS, THEN),
     ({'LC_ALL': 'en_US.utf8'}, False, AS_IT_IS, THEN),
+    ({'LC_ALL': 'de_DE.UTF-8@euro'}, False, AS_IT_IS, THEN),
     ({'TZ': 'XYZ-5'}, False, ESCAPED, '17:58'),
     # a name that leads out of the place of the zones is none, and so is one that is not there
     ({'TZ': 'Asia/../Asia/Tokyo'}, False, ESCAPED, THEN),

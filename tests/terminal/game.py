@@ -27,7 +27,7 @@ ANOTHER = [(re.compile(r'127\.0\.0\.1:\d+'), '127.0.0.1:4321'),
            (re.compile(r'Last login: .*, from'), 'Last login: 28 December 2002, 23:00, from'),
            (re.compile(r'^\d\d:\d\d '), '23:00 ')]
 # What is there only if the server does not answer at once.
-SLOW = 'Sent, and not confirmed by the server yet.'
+SLOW = 'Sent, not confirmed by the server yet.'
 # How many rows a picture has.
 HEIGHT = 13
 

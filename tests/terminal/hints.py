@@ -4,7 +4,7 @@ import random
 import re
 import time
 
-from people import ROOT, Failed, Person, Served, same
+from people import PATIENCE, ROOT, Failed, Person, Served, same
 from game import rows_of_the_page
 from words import ENDED, REFUSED, read
 
@@ -139,6 +139,67 @@ def on_a_small_terminal():
     same('the tallest picture leaves a row for its hint', tallest <= 14, True)
 
 
+class Joined(Person):
+    """One who reads the rows that go on: those begin with a space, as the rows of a picture do."""
+
+    def next_line(self, seconds=PATIENCE):
+        line = super().next_line(seconds)
+        while not PICTURE.fullmatch(line):
+            try:
+                more = super().next_line(0.05)
+            except Failed:
+                break
+            if not more.startswith(' ') or PICTURE.fullmatch(more):
+                self.read_to -= 1
+                break
+            line += more
+        return line
+
+
+class Narrow(Follower):
+    """One who plays so on a terminal of 40 columns."""
+
+    def __init__(self, server, seed):
+        self.chance = random.Random(seed)
+        self.ann = Joined(server.port, columns=40, COLUMNS='40')
+        self.typed, self.lost = [], 0
+
+
+# What can be typed in a match, beside the words of `help`.
+ASKED_FOR = ['players', 'players ready', 'plays', 'plays bar', 'try', 'go', 'moves', 'matches', 'words', 'board',
+             'talk', 'quiet', 'loud', 'arrivals', 'arrivals', 'gag eve', 'ungag eve', 'ungag carl', 'gag', 'numbers',
+             'numbers server', 'numbers own', 'columns', 'rows', 'board above', 'board below', 'board under', 'fix',
+             'reconnect', 'stay', 'send', 'send roll', 'rol', 'sned', 'take', 'exit', 'ratings bob', 'invite',
+             'accept', 'move 24-1', 'quit', 'bye', 'open', 'order roll', 'order roll', 'withdraw roll',
+             'send average eve', 'say well played, my dear old friend']
+
+
+def every_row_fits_forty_columns():
+    """Of a whole match that is played by the hints, and of all that can be typed in it; what goes on of a row begins
+    with a space."""
+    server = Served('--bot', 'eve:invites=1,plays=random,says=hello', '--bot-pause', '20', '--seed', '7')
+    try:
+        follower = Narrow(server, 7)
+        ann = follower.ann
+        ann.types_what('invited', 'join eve')
+        ann.hint()
+        words = sorted({line.split(' ')[0] for line in (ROOT / 'completions' / 'typed').read_text().splitlines()})
+        for line in ['help', *('help ' + word for word in words), *ASKED_FOR]:
+            ann.type(line)
+            time.sleep(0.02)
+        ann.type('tell eve that is all')
+        ann.reads('You say to eve: that is all')
+        ann.type('help')
+        follower.plays_to_the_end()
+        ann.quits()
+        lines = ann.lines()
+        same('a match was played', sum(read(line)[0] == 'hint' for line in lines) > 10, True)
+        same('rows that are wider', [line for line in lines if len(line) > 40], [])
+        ann.close()
+    finally:
+        server.close()
+
+
 def letters_in_bold():
     """If the terminal has them, and never if it does not or one does not want them."""
     seen = {}
@@ -178,7 +239,7 @@ def the_bell():
             ann.type('tell eve hi')
             ann.reads('eve says: hello')
             ann.takes_leave('bye', ['sent bye'])
-            ann.reads('lost')
+            ann.reads('closed, as you asked')
             rings = ann.screen().count('\a')
             same('it rings with FIBS_QUIET=%s' % quiet, rings == 0 if quiet else rings >= 3, True)
             ann.quits()
@@ -215,5 +276,6 @@ def help_lists_the_words():
 
 
 SCENES = [help_lists_the_words, by_hints_alone, by_hints_over_connections_that_are_cut, at_most_forty_rows_a_turn,
-          the_game_of_the_docs, at_most_79_columns, on_a_small_terminal, letters_in_bold,
+          the_game_of_the_docs, at_most_79_columns, on_a_small_terminal,
+          every_row_fits_forty_columns, letters_in_bold,
           what_can_be_done_is_said_once, the_bell]

@@ -6,9 +6,15 @@ from terminals import KINDS
 
 SCENES = []
 
-QUIT = 'You are in a match with bob, which most servers save: quit again leaves.'
+QUIT = 'You are in a match with bob: quit again leaves.'
 
-BYE = 'You are in a match with bob, which most servers save: bye again leaves.'
+BYE = 'You are in a match with bob: bye again leaves.'
+
+# What follows either.
+RESUMES = 'Most servers save it: invite bob then resumes it.'
+
+# How it is said that the server has ended the connection, as one has asked.
+CLOSED = 'closed, as you asked: open connects again, quit ends'
 
 
 @near_and_far(SCENES, '--dice', '31')
@@ -18,7 +24,7 @@ def who_would_leave_a_match_is_asked(table):
     table.begins()
     ann.hint()
     ann.type('quit')
-    same('the row', ann.reads('You are in a match'), QUIT)
+    same('the rows', [ann.reads('You are in a match'), ann.next_line()], [QUIT, RESUMES])
     ann.type('say still here')
     bob.sees('12 ann still here')
     ann.type('quit')
@@ -27,9 +33,12 @@ def who_would_leave_a_match_is_asked(table):
     same('the row', ann.reads('You are in a match'), BYE)
     ann.type('bye')
     ann.reads('sent bye')
-    ann.types_what('open', 'open')
+    ann.reads(CLOSED)
+    ann.type('open')
     ann.reads('Welcome, ann')
-    # the match is saved: nobody is asked
+    # the match is saved, and the row told how it is resumed: nobody is asked
+    ann.type('invite bob')
+    bob.sees("Type 'join ann' to accept.")
     ann.type('quit')
     ann.ends(0)
     same('rows', [row for row in ann.lines() if row.startswith('You are in a match')], [QUIT, QUIT, BYE])

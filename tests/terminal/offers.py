@@ -151,6 +151,34 @@ def a_double_that_the_match_forbids(table):
     ann_rolls_now(table)
 
 
+@near_and_far(SCENES, *BOB_BEGINS)
+def a_double_to_one_point(table):
+    """No board of such a match allows it: she is told why, and how the game goes on."""
+    table.begins(1)
+    table.bob.sees('Please move ..')
+    table.bob.send('move 17-20 19-20')
+    table.ann.advised('hint', 'roll')
+    table.ann.type('double')
+    table.ann.reads('In a match to 1 nobody doubles. [8 WrongKind]')
+    table.ann.types_what('hint', 'roll')
+    table.bob.sees('ann rolls ..')
+
+
+@near_and_far(SCENES, *BOB_BEGINS)
+def a_double_that_comes_too_late_and_too_early(table):
+    """After her roll, and in his turn."""
+    ann_is_to_roll(table)
+    ann_rolls_now(table)
+    table.ann.advised('hint', 'move')
+    table.ann.type('double')
+    table.ann.reads('You have rolled: one doubles before the roll. [8 WrongKind]')
+    table.ann.types_what('hint', 'move')
+    table.bob.sees("It's your turn to roll or double.")
+    table.ann.reads("bob's turn.")
+    table.ann.type('double')
+    table.ann.reads("It is your opponent's turn. [7 NotYours]")
+
+
 @near_and_far(SCENES, *BOB_BEGINS, '--no-board', 'end')
 def a_double_that_is_dropped(table):
     """Without a last board, the text alone says that the game is over."""

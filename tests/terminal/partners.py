@@ -342,7 +342,8 @@ def the_width_is_what_one_says(server):
     server.send(board_of(1))
     ann.reads('+13-14')
     ann.type('columns x')
-    ann.reads('columns 60: how wide the terminal is, from 20 to 999.')
+    ann.reads('columns 60: how wide the terminal is, from 20 to')
+    same('what goes on of a row', ann.next_line(), ' 999.')
     rows = [row for row in ann.lines() if row.startswith((' +', ' |'))]
     same('rows that are wider', [row for row in rows if len(row) > 50], [])
     ann.close()

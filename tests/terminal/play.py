@@ -86,6 +86,13 @@ def ctrl_c_cancels_the_line_and_not_the_game(server):
         player.is_shown('hello', 2)
         player.type_bytes(b'\x03')
         player.is_shown('Ctrl-C again leaves', 2)
+        # a line that is cancelled is one between two presses
+        player.type_bytes(b'tell eve never')
+        player.shown(0.3)
+        player.type_bytes(b'\x03')
+        player.sees('cancelled')
+        player.type_bytes(b'\x03')
+        player.sees('Ctrl-C again leaves')
         player.type_bytes(b'\x03')
         player.ends(0)
         same('the terminal is as it was', (player.echoes(), player.interrupts()), (True, b'\x03'))
@@ -162,8 +169,8 @@ def what_can_not_be_is_refused_before_a_password_is_typed():
         (['localhost', 'http', 'ann'], 'PORT'), (['localhost', '0', 'ann'], 'PORT'),
         (['localhost', '65536', 'ann'], 'PORT'), (['localhost', '4321', ''], 'NAME'),
         (['localhost', '4321', 'a:b'], 'NAME'), (['localhost', '4321', 'a b'], 'NAME'),
-        (['localhost', '4321', 'a' * 65], 'NAME'), (['--log', '/', 'localhost', '4321', 'ann'], 'log'),
-        (['--log'], '--log'), (['localhost'], 'usage'),
+        (['localhost', '4321', '-x'], 'NAME'), (['localhost', '4321', 'a' * 65], 'NAME'),
+        (['--log', '/', 'localhost', '4321', 'ann'], 'log'), (['--log'], '--log'), (['localhost'], 'usage'),
     ]
     for shell in SHELLS:
         for words, wanted in rows:
@@ -171,6 +178,55 @@ def what_can_not_be_is_refused_before_a_password_is_typed():
             player.ends(REFUSED)
             same('%s is named for %r' % (wanted, words), wanted in player.plain(), True)
             same('a password is asked for', 'password' in player.plain().replace('the password', ''), False)
+            player.close()
+
+
+# The settings, what comes after fibs-play, and the words that the program gets; or what is said of them.
+FROM_SETTINGS = [
+    ('server localhost 65535 %s\r\nserver other 1 bob\n' % ('a' * 64), [], ['localhost', '65535', 'a' * 64]),
+    ('# server other 1 bob\n  server   localhost  4321   ann \n', [], ['localhost', '4321', 'ann']),
+    ('server localhost 4321 ann\n', ['other', '1', 'bob'], ['other', '1', 'bob']),
+    ('log a log\r\nserver localhost 4321 ann\nlog other\n', [], ['--log', 'a log', 'localhost', '4321', 'ann']),
+    ('log\nserver localhost 4321 ann\n', [], ['localhost', '4321', 'ann']),
+    ('log a log\n', ['--log=mine', 'localhost', '4321', 'ann'], ['--log', 'mine', 'localhost', '4321', 'ann']),
+    ('server * 4321 ann\n', [], "not '*'"),
+    ('server localhost 4321\n', [], 'usage'),
+    ('', [], 'usage'),
+]
+
+
+def the_settings_say_where_to_play():
+    """If nothing else does: by the first line that does. The program is one that prints the words that it gets."""
+    with tempfile.TemporaryDirectory() as room:
+        program, config = pathlib.Path(room, 'fibs'), pathlib.Path(room, 'config')
+        program.write_text('#!/bin/sh\nprintf "%s\\n" "$@"\n')
+        program.chmod(0o755)
+        for shell in SHELLS:
+            for settings, words, wanted in FROM_SETTINGS:
+                config.write_bytes(settings.encode())
+                done = subprocess.run([*shell, PLAY, *words], stdin=subprocess.DEVNULL, capture_output=True, text=True,
+                                      cwd=room, check=False,
+                                      env={**os.environ, 'FIBS': str(program), 'FIBS_CONFIG': str(config)})
+                if isinstance(wanted, str):
+                    same('it is refused by %r' % settings, (done.returncode, wanted in done.stderr), (REFUSED, True))
+                else:
+                    same('what the program gets by %r' % settings, done.stdout.splitlines(), ['connect', *wanted])
+
+
+def a_program_that_fails_is_not_begun_again():
+    """Nor is the password in its environment, though a variable of that name was handed down; and what is pasted as the
+    password is that alone."""
+    with tempfile.TemporaryDirectory() as room:
+        program = pathlib.Path(room, 'fibs')
+        program.write_text('#!/bin/sh\nenv\nexit 4\n')
+        program.chmod(0o755)
+        for kind in KINDS:
+            player = Typist(['localhost', '4321', 'ann'], kind, ['env', 'password=handed'], FIBS=str(program))
+            player.ends(4)
+            before, *after = player.screen().split('password: ')
+            same('how often it asks', len(after), 1)
+            same('the environment', ('PATH=' in after[0], PASSWORD in after[0]), (True, False))
+            same('pasting is plain', before.rfind('\x1b[?2004l') >= before.rfind('\x1b[?2004h'), True)
             player.close()
 
 
@@ -392,6 +448,7 @@ def tab_completes_by_place(server):
         player = in_play(server, play=os.path.join(room, 'bin', 'fibs-play'))
         for typed, shown in [(b'tell bo\t', 'tell bob'), (b't ba\t', 't barbara'), (b'invite e\t', 'invite eve'),
                              (b'join bo\t', 'join bob'), (b'watch e\t', 'watch eve'), (b'whois ba\t', 'whois barbara'),
+                             (b'matches ba\t', 'matches barbara'), (b'TELL bo\t', 'TELL bob'),
                              (b'tell qui\t', 'tell qui'), (b'm ba\t', 'm bar'), (b'm bar/2\t0 6/o\t', 'm bar/20 6/off'),
                              (b'quie\t', 'quiet'), (b'm wi\t', 'm wi')]:
             player.type_bytes(typed)
@@ -415,5 +472,6 @@ FAR_SCENES = [with_server(scene, '--dice', '31', *options, more=more)
 SCENES = [ctrl_c_cancels_the_line_and_not_the_game, ctrl_c_after_a_stop, tab_completes_the_players_names,
           tab_completes_the_words, tab_completes_by_place, a_name_is_asked_for, each_file_that_is_missing_is_named,
           a_program_that_is_missing, a_small_terminal, a_word_where_rlwrap_is_missing,
-          what_can_not_be_is_refused_before_a_password_is_typed, the_question_ends, a_stop_does_not_show_the_password,
+          what_can_not_be_is_refused_before_a_password_is_typed, the_settings_say_where_to_play,
+          a_program_that_fails_is_not_begun_again, the_question_ends, a_stop_does_not_show_the_password,
           the_password_is_in_no_list_of_processes, fibs_play_without_a_terminal, a_log, *FAR_SCENES]

@@ -95,13 +95,18 @@ def the_end_of_a_match_says_what_next(table):
     end = next(at for at, row in enumerate(rows) if row.startswith('bob wins the game'))
     first, *others = [row.split(' ')[0] for row in rows[end:]]
     same('the rows of the end', (first, sorted(others)), ('bob', ['You', 'invite']))
+    # whatever she types for the match that is over names it again
+    for typed in ('r', 'board', 'go'):
+        ann.type(typed)
+        same('what next after ' + typed, ann.advised('again')[0], line)
+    same('what was sent', rows_with(ann, 'sent roll'), [])
     ann.type(players)
     ann.reads(' player')
     ann.type(line)
     bob.sees("Type 'join ann' to accept.")
     bob.send('join ann')
     ann.hint()
-    ann.was_not_refused()
+    same('what was refused', ann.was_refused(), ['You are in no match: invite NAME 5 begins one. [7 NotYours]'])
 
 
 @with_listener

@@ -156,6 +156,11 @@ def no_record_is_kept_if_the_settings_say_so(server):
         ends_a_match(server, ann, '1509.98', 11)
         ann.type('matches')
         ann.reads('No match is recorded.')
+        # one that is not rated yet is no more listed
+        server.send(BEGINS, ENDS)
+        ann.reads('invite bob 1 plays another match')
+        ann.type('matches')
+        ann.reads('No match is recorded.')
         ann.quits()
         ann.close()
         same('what is kept', lines_of(home), [])

@@ -128,6 +128,9 @@ SCENES += [no_server, no_such_name]
 
 # -- a server that plays by itself -----------------------------------------------------------------------------------
 
+ASKED = 'The server plays for you: fix turns it off; the same line again goes out.'
+
+
 def by_itself(*turned_on):
     """A scene: the account has these on. The screen says so at the login and under the board, and `fix` does the way:
     in a match `bye` is asked about."""
@@ -136,13 +139,16 @@ def by_itself(*turned_on):
     def scene(table):
         ann, bob = table.ann, table.bob
         ann.advised('auto', 'fix')
+        # she is asked once whether she begins so
+        ann.type('invite bob 3')
+        ann.reads(ASKED)
         table.begins()
         ann.reads('Starting a new game with bob.')
         ann.types_what('auto', 'fix')
         for name in turned_on:
             ann.reads('sent toggle ' + name)
         ann.types_what('leave', 'bye')
-        for row in 'sent bye', 'lost: connecting again', 'connected to', 'Welcome, ann':
+        for row in 'sent bye', 'closed, as you asked: connecting again', 'connected to', 'Welcome, ann':
             ann.reads(row)
         ann.types_what('gone', 'invite bob')
         bob.sees("Type 'join ann' to accept.")
@@ -164,17 +170,85 @@ def what_the_server_plays_is_turned_off_before_a_match(table):
     """By one word; then the login ends as any other, and a match begins."""
     ann = table.ann
     ann.types_what('auto', 'fix')
-    for row in ('sent toggle automove', 'sent toggle greedy', 'sent bye', 'lost: connecting again', 'Welcome, ann',
-                'Type players ready, then invite NAME 5.'):
+    for row in ('sent toggle automove', 'sent toggle greedy', 'sent bye', 'closed, as you asked: connecting again',
+                'Welcome, ann', 'Type players ready, then invite NAME 5.'):
         ann.reads(row)
     ann.type('fix')
     ann.reads('fix: the server plays nothing for you.')
     table.begins()
+    ann.advised('hint', 'move')
+    ann.type('fix')
+    ann.reads('fix: the server plays nothing for you.')
     ann.types_what('hint', 'move')
     table.bob.sees('ann moves ..')
     same('what was sent', [row for row in ann.lines() if row.startswith('sent ') and 'move ' not in row],
          ['sent toggle automove', 'sent toggle greedy', 'sent bye', 'sent invite bob 3'])
     ann.was_not_refused()
+
+
+@near_and_far(SCENES, *ANN_BEGINS, '--set', 'ann:automove=1')
+def who_begins_a_match_though_the_server_plays_is_asked_once(table):
+    """By the first line that does; any other one goes out, as it was typed."""
+    ann, bob = table.ann, table.bob
+    ann.advised('auto', 'fix')
+    ann.type('say hi')
+    ann.type('invite bob 3')
+    same('the row', ann.reads('The server plays for you'), ASKED)
+    ann.type('invite bob 1')
+    ann.reads('sent invite bob 1')
+    bob.sees("Type 'join ann' to accept.")
+    ann.type('invite bob 3')
+    ann.reads('sent invite bob 3')
+    bob.sees("Type 'join ann' to accept.")
+    same('how often', ann.lines().count(ASKED), 1)
+
+
+@near_and_far(SCENES, *ANN_BEGINS)
+def what_one_has_toggled_oneself_is_turned_off_by_fix(table):
+    """Whatever was said at the login: a setting that is on is turned off, and one that is off stays so."""
+    ann = table.ann
+    ann.reads('Type players ready, then invite NAME 5.')
+    ann.type('fix')
+    ann.reads('fix: the server plays nothing for you.')
+    for name, on, off in (('automove', '** Forced moves will be done automatically.',
+                           "** Forced moves won't be done automatically."),
+                          ('greedy', '** Will use automatic greedy bearoffs.',
+                           "** Won't use automatic greedy bearoffs.")):
+        ann.type('send toggle ' + name)
+        ann.reads(on)
+        ann.type('fix')
+        ann.reads('fix: turns it off.')
+        ann.reads('sent as it is: toggle ' + name)
+        ann.reads(off)
+        ann.type('fix')
+        ann.reads('fix: the server plays nothing for you.')
+    # twice is as if it were not
+    ann.type('send toggle greedy')
+    ann.reads('** Will use automatic greedy bearoffs.')
+    ann.type('send toggle greedy')
+    ann.reads("** Won't use automatic greedy bearoffs.")
+    ann.type('fix')
+    ann.reads('fix: the server plays nothing for you.')
+    ann.was_not_refused()
+
+
+@near_and_far(SCENES, *ANN_BEGINS, '--set', 'ann:automove=1')
+def what_one_has_turned_off_and_on_again_oneself_is_turned_off_by_fix(table):
+    """And it logs in again, since the client counts what the login says."""
+    ann = table.ann
+    ann.advised('auto', 'fix')
+    ann.type('toggle automove')
+    ann.reads("** Forced moves won't be done automatically.")
+    ann.type('send toggle automove')
+    ann.reads('** Forced moves will be done automatically.')
+    ann.type('fix')
+    for row in ('sent as it is: toggle automove', 'sent bye', 'closed, as you asked: connecting again', 'Welcome, ann',
+                'Type players ready, then invite NAME 5.'):
+        ann.reads(row)
+    ann.type('fix')
+    ann.reads('fix: the server plays nothing for you.')
+    same('what was sent', [row for row in ann.lines() if row.startswith('sent ')],
+         ['sent toggle automove', 'sent as it is: toggle automove', 'sent as it is: toggle automove', 'sent bye'])
 
 
 # -- a client that rolls by itself -----------------------------------------------------------------------------------

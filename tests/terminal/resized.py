@@ -6,6 +6,7 @@ import pathlib
 import re
 import signal
 import tempfile
+import time
 
 from escapes import BOARD
 from partners import NARROW, board_of
@@ -59,6 +60,27 @@ def a_window_of_another_width_is_told_before_the_next_line():
             same('the dice at %d' % columns, rows[at + 8], DICE)
             same('the edge at %d' % columns, rows[at], EDGE)
     leaves(ann, server, *['board'] * 5)
+    server.close()
+
+
+@scene
+def the_size_of_a_window_is_told_from_the_least_to_the_greatest():
+    """Once for each change: 20 to 999 columns, 1 to 999 rows."""
+    if not RLWRAP:
+        return
+    server = Listener()
+    ann = plays(server)
+    for columns, rows, told in [(20, 24, ['columns 20']), (19, 24, []), (999, 1, ['columns 999', 'rows 1']),
+                                (1000, 999, ['rows 999']), (80, 1000, ['columns 80']), (80, 120, ['rows 120']),
+                                (80, 120, [])]:
+        ann.resizes(columns, rows)
+        before = len(ann.screen())
+        ann.type('tell bob hi')
+        same('it is sent', server.line(), 'tell bob hi')
+        ann.shown(0.5)
+        found = re.findall('(columns [0-9]+|rows [0-9]+)\r*\n', ann.screen()[before:])
+        same('what is told at %d by %d' % (columns, rows), found, told)
+    leaves(ann, server, *['tell bob hi'] * 7)
     server.close()
 
 
@@ -223,6 +245,13 @@ def listing(names):
     return [*('5 %s - - 1 0 1500.00 1 0 1041253132 localhost - -' % name for name in names), '6']
 
 
+def ends_so(path, end, seconds=5):
+    """Waits until a file ends so."""
+    latest = time.monotonic() + seconds
+    while not path.read_bytes().endswith(end) and time.monotonic() < latest:
+        time.sleep(0.02)
+
+
 @scene
 def tab_knows_each_player_who_was_listed():
     """Also one who was on no screen, or was listed at the login; and not one who has gone since; with a log that is
@@ -238,7 +267,7 @@ def tab_knows_each_player_who_was_listed():
             ann = plays(server, options=['--log', str(log)] if logs else [], listed=listing(['yolanda', 'ulrich']))
             ann.type('quiet')
             ann.sees('not who comes and goes')
-            names = ['player%03d' % at for at in range(300)] + ['walter', 'zebedee']
+            names = ['player%03d' % at for at in range(300)] + ['walter', 'zebedee', 'urania', 'long' * 16]
             server.send(*listing(names))
             server.send('8 walter walter drops connection.', '12 x listed')
             ann.sees('x says: listed')
@@ -248,6 +277,20 @@ def tab_knows_each_player_who_was_listed():
             same('one who was listed at the login', server.line(), 'tell yolanda hello')
             ann.type_bytes(b'tell wal\tlace hello\n')
             same('a name that is not', server.line(), 'tell wallace hello')
+            ann.type_bytes(b'kibitz ura\t\n')
+            same('one who is named in talk', server.line(), 'kibitz urania')
+            ann.type_bytes(b'tell lon\t hello\n')
+            same('the longest name', server.line(), 'tell %s hello' % ('long' * 16))
+            if logs:
+                # half a line was written when she presses Tab
+                ends_so(log, b' hello\n')
+                with log.open('ab', 0) as half:
+                    half.write(b'7 xav')
+                    ann.type_bytes(b'tell xav\t\x03')
+                    ann.sees('cancelled')
+                    half.write(b'ier xavier logs in.\n')
+                ann.type_bytes(b'tell xav\t hello\n')
+                same('the other half', server.line(), 'tell xavier hello')
             ann.quits()
             same('a log that is left', log.exists(), logs)
             ann.close()

@@ -4,7 +4,7 @@ import time
 
 from offers import (ANN_BEGINS, BOB_BEGINS, ann_is_to_roll, ann_resigns, ann_rolls, bob_is_to_roll, bob_resigns,
                     goes_on_to_the_next_game, never_advised)
-from people import PASSWORD, Client, at_a_table, near_and_far, same
+from people import PASSWORD, Client, Person, at_a_table, near_and_far, same
 from words import read
 
 SCENES = []
@@ -131,6 +131,43 @@ def a_match_to_move_goes_on_without_a_board_on_a_new_connection(table):
     table.ann.hint()
     comes_again_to_a_match_without_a_board(table)
     moves_as(table, 'hint', 'move')
+
+
+def begun_anew(table):
+    """She ends the program and begins it again: it knows nothing of the match."""
+    table.ann.quits()
+    table.ann.close()
+    table.ann = Person(table.server.port)
+    table.ann.reads('Welcome, ann')
+    table.ann.type('invite bob')
+    bob_joins(table)
+
+
+@near_and_far(SCENES, *ANN_BEGINS, '--show-resignations')
+def a_resignation_is_open_when_she_begins_the_program_again(table):
+    """The board gives the turn away, and its text comes after it: nothing is hers before, and nothing but the answer
+    then, also if the board comes once more."""
+    bob_resigns(table)
+    begun_anew(table)
+    table.ann.reads('turn: bob')
+    rows = []
+    while not (row := table.ann.next_line()).startswith('bob wants to resign.'):
+        rows.append(row)
+    same('rows that are not true', [row for row in rows if read(row)[0]], [])
+    never_advised(table.ann, ('hint', 'go on', 'board', 'old'))
+    table.ann.type('board')
+    never_advised(table.ann, ('hint', 'go on', 'board', 'old'), 0.6)
+    table.ann.type('help')
+    table.ann.types_what('answer', 'accept', 'reject')
+    table.bob.sees('ann accepts and wins 1 point.')
+    goes_on_to_the_next_game(table)
+
+
+@near_and_far(SCENES, *BOB_BEGINS)
+def it_is_her_turn_when_she_begins_the_program_again(table):
+    ann_is_to_roll(table)
+    begun_anew(table)
+    ann_rolls(table, 'hint')
 
 
 # -- what crosses his going ------------------------------------------------------------------------------------------

@@ -47,12 +47,12 @@ ROWS = [(kind, re.compile(form), more) for kind, form, *more in [
     ('gone', r'\S+ is here: your match \(.*\) is saved: (invite \S+)\.'),
     ('gone', r'(invite \S+)\.'),
     ('again', r'(invite \S+ \d+) plays another match; (players ready) lists others\.'),
-    ('auto', r'The server plays for you: (fix) turns it off, and logs in again\.'),
-    ('open', r'lost.*: (open) connects again, (quit) ends'),
+    ('auto', r'The server plays for you: (fix) turns it off(?:, and logs in again|; the same line again goes out)\.'),
+    ('open', r'(?:lost|closed).*: (open) connects again, (quit) ends'),
     ('open', r'no connection to .*', 'open', 'quit'),
     # its last words go on in another row if the name is long
     ('leave', r'You are in a match.*: (quit|bye)(?: again)?(?: leaves\.)?'),
-    ('login', r'Not logged in: wrong name or password\? (quit), and begin again\.'),
+    ('login', r'Not logged in: wrong name or password\? If nothing follows, type (quit)\.'),
     # what was said in place of `go on`, before the screen knew what a text says
     ('old', r'(?:.* )?or the server refused, (send .*); or (bye) and open\.'),
 ]]
