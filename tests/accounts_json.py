@@ -57,9 +57,15 @@ def objects(lines, name):
     return found
 
 
+def without_place(one):
+    """An object of `show` without the place of its line, which only `show` has, and as its last members."""
+    same('its place', list(one)[-2:], ['line_number', 'offset'])
+    return dict(list(one.items())[:-2])
+
+
 def shown(program, line):
-    """The object that `show --json` prints for a line."""
-    return json.loads(lines_of(program, ['show', '--json'], line.encode('latin-1') + b'\n')[0])
+    """The object that `show --json` prints for a line, without its place."""
+    return without_place(json.loads(lines_of(program, ['show', '--json'], line.encode('latin-1') + b'\n')[0]))
 
 
 def played(program, line, status=0):
@@ -81,7 +87,7 @@ def place_of(at, direction):
 def plays_say_what_is_listed(program):
     """Of the boards of a session and of an example: as `plays` lists them, and the rest as `show --json` has it."""
     given = b''.join((ROOT / 'examples' / name).read_bytes() for name in ('capture.txt', 'board.txt'))
-    boards = [one for one in map(json.loads, lines_of(program, ['show', '--json'], given))
+    boards = [without_place(one) for one in map(json.loads, lines_of(program, ['show', '--json'], given))
               if one['kind'] == 'board' and one['phase']]
     same('there are some', len(boards) > 1, True)
     for board in boards:
@@ -136,7 +142,7 @@ def other_words_are_lines(program):
                  text.replace('"line"', '"lines"'), text.replace(':bob:', ':b\\u006fb:'),
                  text.replace(':bob:', ':b\\"b:'), json.dumps(json.loads(text)), escaped, '{', '{}',
                  '{"kind":"board","line":"', '{"kind":"board","line":"}', '{"kind":"board"}', '{"line":"%s"}' % BEARING,
-                 '{"kind":"text","line":"hello"}', '{"kind":"unfinished","bytes":7}'):
+                 '{"kind":"text","line":"hello"}', '{"kind":"unfinished","line":"board:","bytes":6}'):
         same(word, listed(program, word), (3, b'', b'not a board\n'))
         same(word, played(program, word, 3), {'kind': 'text', 'line': word})
     same('its line', listed(program, named)[0], 0)

@@ -24,13 +24,13 @@ RECORDS = {'LinesHandle': 'fibs_lines', 'ClientHandle': 'fibs_client', 'Director
            'DecisionRecord': 'fibs_decision', 'WireRecord': 'fibs_wire', 'OutstandingRecord': 'fibs_outstanding',
            'Heard': 'fibs_heard', 'PartRecord': 'fibs_part', 'PlayerRecord': 'fibs_player', 'EventsHandle': 'fibs_events',
            'NameRecord': 'fibs_name', 'EventRecord': 'fibs_event', 'HappenedRecord': 'fibs_happened',
-           'SavedRecord': 'fibs_saved'}
+           'SavedRecord': 'fibs_saved', 'NextRecord': 'fibs_next'}
 
 NUMBERS = {'u8': 'uint8_t', 'u16': 'uint16_t', 'u32': 'uint32_t', 'u64': 'uint64_t', 'i32': 'int32_t',
            'usize': 'size_t', 'bool': 'bool', '*mut u8': 'void *'}
 
 # The header's names of fields that have another name in the library.
-FIELDS = {'numbers': 'number'}
+FIELDS = {'numbers': 'number', 'rating': 'rating_hundredths'}
 
 
 def without_comments(text):
@@ -238,6 +238,7 @@ def limits_of():
         'FIBS_MAX_STATUS_NAME': max(map(len, names)),
         'FIBS_MAX_STEPS': read('crates/fibs_c/src/records/decisions.rt', r'pub steps: \[PlayStep; (\d+)\]'),
         'FIBS_MAX_PLAYS': math.comb(15 + 4 - 1, 4),
+        'FIBS_MAX_NEXT': read('crates/fibs_c/src/turn.rt', r'pub steps: \[PlayStep; (\d+)\]'),
         'FIBS_MAX_EVENTS': read('crates/fibs_events/src/happened.rt', r'const MOST_EVENTS: usize = (\d+);'),
         'FIBS_MAX_PLAYERS': read('crates/fibs_messages/src/directory/directory.rt', r'const MOST_PLAYERS: usize = ([\d_]+);'),
         'FIBS_VERSION': '.'.join(version), 'FIBS_VERSION_MAJOR': int(version[0]),

@@ -21,6 +21,7 @@ import time
 
 from props import peeking
 from props.checks import PATIENCE, Failed, same
+from props.listener import keeps_port
 from props.server import OWN_INFO, WHO_INFO, Game, Server
 
 PROGRAM = sys.argv[1]
@@ -30,6 +31,9 @@ WELCOME = '1 ann 1041253132 localhost'
 LOGIN = 'login fibs_client 1008 ann secret'
 
 STYLE = 'set boardstyle 3'
+
+# How many cases are played at the same time: they wait most of the time.
+BESIDE = 6
 
 
 class Player:
@@ -119,11 +123,14 @@ def run(arguments, typed):
     return done.returncode, done.stdout.decode('latin-1'), done.stderr.decode('latin-1')
 
 
-def free_port():
-    """A port on which nothing listens."""
-    with socket.socket() as taken:
-        taken.bind(('127.0.0.1', 0))
-        return taken.getsockname()[1]
+# The sockets that keep the ports on which nothing listens.
+KEPT = []
+
+
+def free_port(port=0):
+    """A port on which nothing listens, this one or any."""
+    KEPT.append(keeps_port(port))
+    return KEPT[-1].getsockname()[1]
 
 
 def logged_in(server, name='ann'):
@@ -299,6 +306,7 @@ def one_who_opens_again_where_nothing_listens_any_more(server):
     player.type('')
     player.sees(*('message ' + line for line in WHO_INFO))
     server.close()
+    free_port(server.port)
     player.type('')
     player.sees('lost')
     player.type('open')
@@ -685,6 +693,8 @@ def streams_that_are_closed(server):
 
 
 CASES = [
+    # it takes ten seconds
+    an_address_that_does_not_answer,
     a_game_from_login_to_the_end_with_a_lost_connection_in_the_middle, nothing_listens_on_the_port,
     a_listener_that_has_not_accepted_yet, the_end_of_what_is_typed_is_as_quit, a_host_by_its_name,
     a_host_by_an_address_of_version_6, a_host_of_which_one_address_alone_answers, hosts_that_are_none,
@@ -694,7 +704,7 @@ CASES = [
     a_server_that_closes_at_once, a_server_that_resets_the_connection, a_connection_that_ends_within_a_line,
     a_line_that_comes_byte_by_byte, a_flood_of_lines, a_line_of_megabytes, a_server_that_says_nothing,
     a_quiet_server_is_waited_for_half_a_second, stopped_while_the_server_is_heard, stopped_while_a_line_is_waited_for,
-    stopped_while_it_connects, an_address_that_does_not_answer, stopped_while_it_writes,
+    stopped_while_it_connects, stopped_while_it_writes,
     long_and_odd_lines, a_line_that_is_typed_in_parts, output_that_cannot_be_written, input_that_cannot_be_read,
     streams_that_are_closed,
 ]
@@ -725,4 +735,4 @@ def play(cases, beside=1):
 
 
 if __name__ == '__main__':
-    sys.exit(play(CASES))
+    sys.exit(play(CASES, BESIDE))

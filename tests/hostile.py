@@ -36,7 +36,7 @@ TURN = TURN_READS * 1024
 
 # How many sessions of a case are held at the same time, and how many cases are played so: they wait most of the time.
 MANY = 32
-BESIDE = 3
+BESIDE = 4
 
 OWN = OWN_INFO % 'ann'
 
@@ -664,6 +664,8 @@ def more_players_of_the_longest_lines_than_a_directory_has_room_for(server):
 
 
 CASES = [
+    # it takes longest
+    more_players_of_the_longest_lines_than_a_directory_has_room_for,
     a_server_that_stalls_in_the_middle_of_a_line, one_who_quits_while_a_line_is_not_at_its_end,
     a_flood_of_a_hundred_megabytes, a_flood_that_never_ends,
     a_server_that_sends_a_byte_whenever_one_was_read, a_flood_of_which_nobody_reads_any_more,
@@ -673,7 +675,6 @@ CASES = [
     resets_one_after_another_while_a_roll_waits, logins_that_are_reset_unread, telnet_commands_across_every_cut,
     prompts_without_end, prompts_as_far_as_a_line_is_kept, boards_of_other_players, boards_that_are_shouted,
     every_pattern_of_the_flags_of_message_2, more_players_than_a_directory_has_room_for,
-    more_players_of_the_longest_lines_than_a_directory_has_room_for,
 ]
 
 

@@ -8,6 +8,7 @@ case, and then `N passed, M failed`.
 
 import json
 import pathlib
+import random
 import re
 import shutil
 import subprocess
@@ -97,6 +98,42 @@ def the_objects_fit_the_schema(program):
             same('the number of its line', texts[one['line_number']]['line'], one['text'])
 
 
+def refusals_of(given):
+    """The numbers of the lines that tell a refused login: they begin with the question, a line before them was nothing
+    else, and none before them greets."""
+    lines = given.replace(b'\r', b'').split(b'\n')
+    for number, line in enumerate(lines, 1):
+        before = lines[:number - 1]
+        greeted = any(one.startswith((b'1 ', b'login: 1 ')) for one in before)
+        if line.startswith(b'login: ') and b'login: ' in before and not greeted:
+            yield number
+
+
+def refused_logins_are_told(program):
+    """Worked sessions, and lines by lot: each comes right before the object of its line, or before the unfinished one."""
+    greeting = b'1 ann 1041253132 localhost\r\n'
+    asked = b'login: \r\n'
+    chance = random.Random(41)
+    parts = [b'login: ', b'login: ', b'login: ', b'login: x', b'1 ann 1 h', b'login: 1 ann 1 h', b'hi', b'login:', b'']
+    by_lot = [b'\n'.join(chance.choice(parts) + chance.choice([b'', b'\r']) for _ in range(6)) for _ in range(60)]
+    worked = [(asked + b'login: ', [2]), (asked + b'login: ' + greeting, [2]), (asked * 3, [2, 3]),
+              (asked, []), (b'login: ', []), (b'login: ' + greeting + asked * 2, []), (asked + greeting + asked, []),
+              (b'welcome\r\n' + asked + b'sorry\r\nlogin: who\r\n', [4]), (asked + b'login:', [])]
+    for given, wanted in worked + [(one, list(refusals_of(one))) for one in by_lot]:
+        same('worked out: %r' % given, list(refusals_of(given)), wanted)
+        found = objects(program, given)
+        told = [one for one in found if one.get('event') == 'login_refused']
+        same('%r' % given, told, [{'kind': 'event', 'event': 'login_refused', 'line_number': number} for number in wanted])
+        for one, after in zip(found, found[1:]):
+            if one in told:
+                same('what follows', after.get('line_number'), one['line_number'])
+                same('its kind', after['kind'] in ('text', 'message', 'unfinished', 'malformed'), True)
+            if wrong := one['kind'] == 'event' and fault_in(one, schema('events'), 'events'):
+                raise Failed('%r: %s' % (one, wrong))
+        same('they count as events', found[-1]['events'], sum(one['kind'] == 'event' for one in found))
+    same('there are some by lot', sum(map(len, map(list, map(refusals_of, by_lot)))) > 20, True)
+
+
 def the_page_answers(program):
     """The thirteen questions, over both players' sessions of several matches."""
     same('how many questions there are', len(questions()), 13)
@@ -146,7 +183,7 @@ def answers(program, client):
 def main():
     if len(sys.argv) != 2:
         sys.exit('usage: tests/show_events.py PROGRAM')
-    return try_all([the_objects_fit_the_schema, the_page_answers], str(pathlib.Path(sys.argv[1]).resolve()))
+    return try_all([the_objects_fit_the_schema, refused_logins_are_told, the_page_answers], str(pathlib.Path(sys.argv[1]).resolve()))
 
 
 if __name__ == '__main__':

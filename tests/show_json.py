@@ -111,8 +111,11 @@ def unescaped(text):
 def the_rows_are_printed(program):
     found = objects(program, b''.join(line + b'\r\n' for line, _, _ in ROWS))
     same('how many', len(found), len(ROWS))
-    for one, (line, kind, rest) in zip(found, ROWS):
-        same('%r' % line, list(one.items()), [('kind', kind), ('line', line.decode('latin-1')), *rest.items()])
+    offset = 0
+    for number, (one, (line, kind, rest)) in enumerate(zip(found, ROWS), 1):
+        same('%r' % line, list(one.items()), [('kind', kind), ('line', line.decode('latin-1')), *rest.items(),
+                                              ('line_number', number), ('offset', offset)])
+        offset += len(line) + 2
 
 
 def the_schema_has_no_other_message(_program):
@@ -122,17 +125,51 @@ def the_schema_has_no_other_message(_program):
 
 def the_first_bytes_are_these(program):
     same('a text', shown(program, b'a"b\\c\xff\xff\x7f\n', '--json'),
-         [b'{"kind":"text","line":"a\\u0022b\\u005cc\\u00ff\\u007f"}'])
+         [b'{"kind":"text","line":"a\\u0022b\\u005cc\\u00ff\\u007f","line_number":1,"offset":0}'])
     same('a message', shown(program, b'> 10 carol  \r\n', '--json'),
-         [b'{"kind":"message","line":"10 carol  ","number":10,"message":"message_delivered","name":"carol"}'])
+         [b'{"kind":"message","line":"10 carol  ","number":10,"message":"message_delivered","name":"carol",'
+          b'"line_number":1,"offset":0}'])
     same('no line', shown(program, b'', '--json'), [])
 
 
 def cut_and_unfinished_lines_are_said(program):
     found = objects(program, b'a' * 16385 + b'\n' + b'b' * 16384 + b'\n' + b'c' * 20000)
-    same('they', found, [{'kind': 'cut', 'line': 'a' * 16384}, {'kind': 'text', 'line': 'b' * 16384},
-                         {'kind': 'unfinished', 'bytes': 16384}])
-    same('one byte', objects(program, b'3'), [{'kind': 'unfinished', 'bytes': 1}])
+    same('they', found, [{'kind': 'cut', 'line': 'a' * 16384, 'line_number': 1, 'offset': 0},
+                         {'kind': 'text', 'line': 'b' * 16384, 'line_number': 2, 'offset': 16386},
+                         {'kind': 'unfinished', 'line': 'c' * 16384, 'bytes': 16384, 'line_number': 3,
+                          'offset': 32771}])
+    for given, number, offset, rest in ((b'3', 1, 0, '3'), (b'a\nlogin: ', 2, 2, 'login: '),
+                                        (b'a\n\n\xff\xfb\x01> b\r', 3, 3, '> b\r')):
+        same('%r' % given, objects(program, given)[-1], {'kind': 'unfinished', 'line': rest, 'bytes': len(rest),
+                                                         'line_number': number, 'offset': offset})
+    same('no byte of a line', objects(program, b'a\n\xff\xfb'),
+         [{'kind': 'text', 'line': 'a', 'line_number': 1, 'offset': 0}])
+
+
+def line_starts(given):
+    """Where each line of some bytes begins, and last the one that has not ended: a LF of a telnet command ends none."""
+    starts, at = [0], 0
+    while at < len(given):
+        if given[at] == 255:
+            at += 3 if given[at + 1:at + 2] in (b'\xfb', b'\xfc', b'\xfd', b'\xfe') else 2
+            continue
+        at += 1
+        if given[at - 1] == 10:
+            starts.append(at)
+    return starts
+
+
+def each_line_has_its_place(program):
+    """Of bytes by lot, with telnet commands that have a LF, and in a session."""
+    chance = random.Random(17)
+    session = (ROOT / 'examples' / 'capture.txt').read_bytes()
+    for given in (session, *(bytes(chance.choice(b'ab >\r\n\n\xff\xfb\xfe') for _ in range(4000)) for _ in range(20))):
+        found = objects(program, given)
+        starts = line_starts(given)
+        if len(found) < len(starts):
+            starts.pop()
+        same('the numbers', [one['line_number'] for one in found], list(range(1, len(starts) + 1)))
+        same('the offsets', [one['offset'] for one in found], starts)
 
 
 def any_line_is_given_back(program):
@@ -193,7 +230,7 @@ def the_page_asks_jq_so(program):
 
 
 CASES = [the_rows_are_printed, the_schema_has_no_other_message, the_first_bytes_are_these,
-         cut_and_unfinished_lines_are_said, any_line_is_given_back, the_plain_account_says_the_same,
+         cut_and_unfinished_lines_are_said, each_line_has_its_place, any_line_is_given_back, the_plain_account_says_the_same,
          a_board_goes_in_again, the_page_asks_jq_so]
 
 

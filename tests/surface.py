@@ -433,7 +433,7 @@ def make_installs_them(_program):
         **{'share/man/man1/%s.1' % name: 'docs/fibs.1' for name in ('fibs', 'fibs-play', 'fibs-mat')},
         'share/fibs/typed': 'completions/typed',
         'share/fibs/keys.pl': 'scripts/keys.pl', 'share/fibs/inputrc': 'scripts/inputrc',
-        'share/fibs/config': 'examples/config',
+        'share/fibs/config': 'examples/config', 'share/fibs/match_files.py': 'python/fibs/match_files.py',
         'share/bash-completion/completions/fibs': 'completions/fibs.bash',
         'share/bash-completion/completions/fibs-play': 'completions/fibs.bash',
         'share/zsh/site-functions/_fibs': 'completions/_fibs',
@@ -444,10 +444,24 @@ def make_installs_them(_program):
         done = run(['make', '-s', 'install-surface', 'PREFIX=' + room], cwd=ROOT)
         same('make', (done.returncode, done.stderr), (0, ''))
         top = pathlib.Path(room)
+        # what runs leaves nothing beside it
+        same('fibs-mat runs', run([top / 'bin' / 'fibs-mat', '--help']).returncode, 0)
         found = {str(path.relative_to(top)): path.read_text() for path in top.rglob('*') if path.is_file()}
         same('what is installed', found, {path: text_of(source) for path, source in wanted.items()})
         for name in 'fibs-play', 'fibs-mat':
             same('%s runs' % name, bool((top / 'bin' / name).stat().st_mode & 0o111), True)
+
+
+def fibs_mat_finds_what_makes_the_files(_program):
+    """If it lies alone, that of the package that is installed, whose library is not needed. If there is none, it says in
+    one line how to get it."""
+    with tempfile.TemporaryDirectory() as room:
+        alone = shutil.copy(ROOT / 'scripts' / 'fibs-mat', room)
+        known = {**os.environ, 'PYTHONPATH': str(ROOT / 'python'), 'FIBS_LIBRARY': '/nowhere/libfibs.so'}
+        for words, env, wanted in (([], known, (0, '')), (['-I', '-S'], None, (
+                4, 'fibs-mat: the file match_files.py is missing: make install brings it\n'))):
+            done = run([sys.executable, '-B', *words, alone, '--help'], env=env)
+            same(repr(words), (done.returncode, done.stderr), wanted)
 
 
 CASES = [
@@ -459,7 +473,7 @@ CASES = [
     the_words_of_a_terminal_mean_the_same, the_help_of_a_terminal_means_the_same,
     the_commands_of_the_formats_mean_the_same, each_status_means_the_same,
     the_picture_of_the_page_is_the_players, the_page_is_clean, fibs_play_is_plain_shell, fibs_play_tells_its_use,
-    fibs_play_takes_what_the_settings_say, make_installs_them,
+    fibs_play_takes_what_the_settings_say, make_installs_them, fibs_mat_finds_what_makes_the_files,
 ]
 
 

@@ -20,9 +20,9 @@ int LLVMFuzzerTestOneInput(const uint8_t *data, size_t size);
 #ifndef FAMILY
 #define FAMILY 0
 #endif
-enum { FUNCTIONS = 56 };
+enum { FUNCTIONS = 58 };
 static const struct { uint8_t first, count; } families[] = {
-    { 0, FUNCTIONS }, { 0, 7 }, { 7, 18 }, { 25, 16 }, { 41, 8 }, { 49, 7 }
+    { 0, FUNCTIONS }, { 0, 7 }, { 7, 20 }, { 27, 16 }, { 43, 8 }, { 51, 7 }
 };
 
 static unsigned long long calls, calls_of[FUNCTIONS];
@@ -371,6 +371,19 @@ static void call_readings(uint8_t which) {
         status = fibs_crawford(line.bytes, line.len, &out.byte);
         must(!answered(status, status == FIBS_STATUS_DONE ? BYTE : NOTHING) || out.byte <= 1, "Crawford's or not");
         break;
+    case 17:
+        decision = some_decision();
+        status = fibs_next_steps(line.bytes, line.len, &decision, &out.next);
+        must(!answered(status, status == FIBS_STATUS_DONE ? NEXT : NOTHING) || out.next.count <= FIBS_MAX_NEXT,
+             "next steps");
+        break;
+    case 18:
+        decision = some_decision();
+        status = fibs_listed_play(line.bytes, line.len, &decision, &out.decision);
+        if (answered(status, status == FIBS_STATUS_DONE ? DECISION : NOTHING)) {
+            is_decision(&out.decision);
+        }
+        break;
     case 16:
         is_text(fibs_words(line.bytes, line.len, text, room, &out.size), text, room, FIBS_MAX_LINE);
         break;
@@ -608,14 +621,14 @@ int LLVMFuzzerTestOneInput(const uint8_t *data, size_t size) {
         fill();
         if (which < 7) {
             call_lines(which);
-        } else if (which < 25) {
+        } else if (which < 27) {
             call_readings(which - 7);
-        } else if (which < 41) {
-            call_client(which - 25);
-        } else if (which < 49) {
-            call_directory(which - 41);
+        } else if (which < 43) {
+            call_client(which - 27);
+        } else if (which < 51) {
+            call_directory(which - 43);
         } else {
-            call_events(which - 49);
+            call_events(which - 51);
         }
     }
     fibs_lines_free(&held.lines);

@@ -15,6 +15,7 @@ static struct outs {
     fibs_player player;
     fibs_happened happened;
     fibs_saved saved;
+    fibs_next next;
     fibs_decision decision, plays[32];
     fibs_outstanding waited;
     uint8_t byte;
@@ -24,7 +25,8 @@ static struct outs {
 
 enum {
     NOTHING = 0, FED = 1, TOLD = 2, ROWS = 4, HEARD = 8, WIRE = 16, BOARD = 32, FIELD = 64, DECISION = 128, PLAYS = 256,
-    WAITED = 512, BYTE = 1024, SIZE = 2048, TEXT = 4096, PLAYER = 8192, HAPPENED = 16384, SAVED = 32768
+    WAITED = 512, BYTE = 1024, SIZE = 2048, TEXT = 4096, PLAYER = 8192, HAPPENED = 16384, SAVED = 32768,
+    NEXT = 65536
 };
 
 static void fill(void) {
@@ -40,5 +42,5 @@ static unsigned written(void) {
     return AT(fed, FED) | AT(told, TOLD) | AT(rows, ROWS) | AT(heard, HEARD) | AT(wire, WIRE) | AT(board, BOARD)
            | AT(field, FIELD) | AT(decision, DECISION) | AT(plays, PLAYS) | AT(waited, WAITED) | AT(byte, BYTE)
            | AT(size, SIZE) | AT(text, TEXT) | AT(player, PLAYER)
-           | AT(happened, HAPPENED) | AT(saved, SAVED);
+           | AT(happened, HAPPENED) | AT(saved, SAVED) | AT(next, NEXT);
 }

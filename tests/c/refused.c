@@ -26,7 +26,8 @@ static bool run(long number) {
     static fibs_happened happened;
     static char text[4096];
     fibs_wire wire = { 0 };
-    fibs_decision none = { 0, 0, { { 0, 0 } } };
+    fibs_decision none = { 0, 0, { { 0, 0 } } }, play = none;
+    fibs_decision whole = { FIBS_DECISION_MOVE, 2, { { 24, 18 }, { 18, 16 } } };
     size_t count = 77, len = 77;
     refuse(number);
     plays[0] = none;
@@ -73,6 +74,12 @@ static bool run(long number) {
     /* if room for all plays at once is refused, it may do with less */
     check(made == S(DONE) || (made == S(MEMORY) && refused > before), "fibs_plays", number);
     check(made == S(DONE) ? count == 14 : count == 77 && plays[0].kind == 0, "fibs_plays writes", number);
+
+    before = refused;
+    play.kind = 77;
+    made = fibs_listed_play(board, strlen(board), &whole, &play);
+    check(made == S(DONE) ? play.kind == FIBS_DECISION_MOVE && play.count == 2
+                          : made == S(MEMORY) && refused > before && play.kind == 77, "fibs_listed_play", number);
 
     before = refused;
     len = 77;

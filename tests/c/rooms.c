@@ -157,6 +157,11 @@ static void check_rooms(void) {
     check(fibs_lines_held(&lines, &len) == S(DONE) && len == 1, "one byte is held");
     check(fibs_lines_reset(&lines) == S(DONE) && fibs_lines_held(&lines, &len) == S(DONE) && len == 0,
           "and forgotten");
+    static char wide[FIBS_MAX_LINE + 9];
+    memset(wide, 'x', sizeof wide);
+    check(fibs_lines_feed(&lines, wide, sizeof wide, text, sizeof text, &fed) == S(DONE) && !fed.ended
+          && fibs_lines_held(&lines, &len) == S(DONE) && len == FIBS_MAX_LINE, "a full line is held");
+    check(fibs_lines_reset(&lines) == S(DONE), "and forgotten too");
     check(fibs_read_lines(&lines, TEXT("a\n3\nb\n"), text, FIBS_MAX_LINE - 1, rows, 2, &told) == S(SHORT)
           && told.used == 0 && told.lines == 1 && told.bytes == FIBS_MAX_LINE, "no room for a line");
     check(fibs_read_lines(&lines, TEXT("a\n3\nb\n"), text, FIBS_MAX_LINE + 1, rows, 0, &told) == S(SHORT)

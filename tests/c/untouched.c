@@ -79,6 +79,7 @@ static const char player[] = "5 someplayer mgnu_advanced - 0 0 1912.15 827 8 104
 
 static const fibs_decision roll = { FIBS_DECISION_ROLL, 0, { { 0, 0 } } };
 static const fibs_decision none = { FIBS_DECISION_NONE, 0, { { 0, 0 } } };
+static const fibs_decision no_step = { FIBS_DECISION_MOVE, 0, { { 0, 0 } } };
 static const fibs_decision illegal = { FIBS_DECISION_MOVE, 1, { { 24, 23 } } };
 
 static void check_names(void) {
@@ -208,6 +209,8 @@ static void check_rules(void) {
         is("no phase", lines[i].status, fibs_phase(T(lines[i].line), &out.byte), NOTHING);
         is("no plays", lines[i].status, fibs_plays(T(lines[i].line), out.plays, 32, &out.size), NOTHING);
         is("nothing is allowed", lines[i].status, fibs_allows(T(lines[i].line), &roll), NOTHING);
+        is("no next steps", lines[i].status, fibs_next_steps(T(lines[i].line), &no_step, &out.next), NOTHING);
+        is("no listed play", lines[i].status, fibs_listed_play(T(lines[i].line), &no_step, &out.decision), NOTHING);
         is("no effect", lines[i].status,
            fibs_effect(T(lines[i].line), &roll, 1, 2, out.text, sizeof out.text, &out.size), NOTHING);
     }
@@ -290,6 +293,49 @@ static void check_rules(void) {
           && out.decision.steps[3].target == 0,
           "the steps after the count are zeros");
     is("a move", 0, 0, DECISION);
+}
+
+/* The steps that may follow on the board after some, as `24/22 24/18`. */
+static const char *next_after(const fibs_decision *made) {
+    static char text[FIBS_MAX_NEXT * 6 + 1];
+    text[0] = '\0';
+    if (fibs_next_steps(T(board), made, &out.next) != S(DONE)) {
+        return "refused";
+    }
+    for (size_t i = 0; i < out.next.count; i++) {
+        snprintf(text + strlen(text), sizeof text - strlen(text), "%s%u/%u", i > 0 ? " " : "",
+                 out.next.steps[i].source, out.next.steps[i].target);
+    }
+    for (size_t i = out.next.count; i < FIBS_MAX_NEXT; i++) {
+        check(out.next.steps[i].source == 0 && out.next.steps[i].target == 0, "steps after the count are zeros");
+    }
+    return text;
+}
+
+/* A turn step by step. */
+static void check_turn(void) {
+    fibs_decision made = { FIBS_DECISION_MOVE, 1, { { 24, 18 } } };
+    is("no steps to go on from", S(NO_DECISION), fibs_next_steps(T(board), &none, &out.next), NOTHING);
+    is("a roll is no step", S(NO_DECISION), fibs_next_steps(T(board), &roll, &out.next), NOTHING);
+    is("one rolls first", S(WRONG_KIND), fibs_next_steps(T(to_roll), &no_step, &out.next), NOTHING);
+    is("their turn", S(NOT_YOURS), fibs_next_steps(T(theirs), &no_step, &out.next), NOTHING);
+    is("a step that no move has", S(ILLEGAL_PLAY), fibs_next_steps(T(board), &illegal, &out.next), NOTHING);
+    is("no play of no decision", S(NO_DECISION), fibs_listed_play(T(board), &none, &out.decision), NOTHING);
+    is("no play of a roll", S(NO_DECISION), fibs_listed_play(T(board), &roll, &out.decision), NOTHING);
+    is("no play before a roll", S(WRONG_KIND), fibs_listed_play(T(to_roll), &no_step, &out.decision), NOTHING);
+    is("more is to be played", S(ILLEGAL_PLAY), fibs_listed_play(T(board), &made, &out.decision), NOTHING);
+    check(strcmp(next_after(&no_step), "24/22 24/18 13/11 13/7 8/6 8/2 6/4") == 0, "the first steps");
+    is("steps", 0, 0, NEXT);
+    check(strcmp(next_after(&made), "24/22 18/16 13/11 8/6 6/4") == 0, "the second steps");
+    made.count = 2;
+    made.steps[1].source = 18;
+    made.steps[1].target = 16;
+    check(strcmp(next_after(&made), "") == 0, "a whole move");
+    fill();
+    check(fibs_listed_play(T(board), &made, &out.decision) == S(DONE) && out.decision.count == 2
+          && out.decision.steps[0].source == 24 && out.decision.steps[0].target == 22
+          && out.decision.steps[1].source == 22 && out.decision.steps[1].target == 16, "the listed play");
+    is("a listed play", 0, 0, DECISION);
 }
 
 /* Gives the client a text, line by line. */
@@ -498,7 +544,7 @@ static void check_directory(void) {
               && memcmp(out.text + 44, pattern.text + 44, sizeof out.text - 44) == 0, "just its texts are written");
         check(out.player.name.start == 0 && out.player.name.len == 10 && out.player.opponent.start == 10
               && out.player.watching.len == 1 && out.player.hostname.start == 24 && out.player.email.len == 1
-              && out.player.rating == 191215 && out.player.experience == 827 && out.player.idle == 8
+              && out.player.rating_hundredths == 191215 && out.player.experience == 827 && out.player.idle == 8
               && out.player.login == 1040515752 && out.player.ready == 0 && out.player.away == 0, "its fields");
         is("a player", 0, 0, PLAYER | TEXT | SIZE);
         is("clear", S(DONE), fibs_directory_clear(&directory), NOTHING);
@@ -641,6 +687,7 @@ int main(void) {
     check_lines();
     check_readings();
     check_rules();
+    check_turn();
     check_client();
     check_directory();
     check_events();

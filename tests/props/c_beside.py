@@ -123,6 +123,8 @@ def printed(line):
 
 def text_of(kind, value):
     """A field's canonical text."""
+    if value is None:
+        return b'-'
     if isinstance(value, bytes):
         return value
     return b'%d.%02d' % divmod(value, 100) if kind is reference.rating else b'%d' % value

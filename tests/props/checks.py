@@ -1,7 +1,7 @@
 """What has to be the same, and how long it may take."""
 
 # How long something may take to come, on a machine that does much else.
-PATIENCE = 60
+PATIENCE = 180
 
 
 class Failed(Exception):

@@ -16,6 +16,8 @@ EMPTY = "unreachable!()"
 # What is written of a proof, beside lemmas: what the prover asks for, or all of it.
 ANSWERED = ("Answers.antt", "Invariants.antt")
 WRITTEN = (*ANSWERED, "Proof.antt")
+# The file of the one hole on which the proofs of functions without bodies rest.
+HOLE = "OfEmptied"
 
 
 class Function:
@@ -172,7 +174,15 @@ def may_be_copied(function, folder):
 
 
 def write_holes(folder, crate, lost):
-    """Writes a hole for the proof of each of these functions of a copy of a crate."""
+    """Writes proofs of these functions of a copy of a crate, which rest on one hole: of each the prover prints what it
+    has to show, which takes as long as many a proof."""
+    if not lost:
+        return
+    os.makedirs(f"{folder}/proofs", exist_ok=True)
+    with open(f"{folder}/proofs/{HOLE}.antt", "w", encoding="utf-8") as it:
+        it.write("pub hole {ℓ} : {A : Type ℓ} → A\nhole = ?\n")
+    with open(f"{folder}/proofs/Lib.antt", "a", encoding="utf-8") as it:
+        it.write(f"\npub mod {HOLE}\n")
     for path in lost:
         *above, name = path.split("::")
         place = "/".join(["proofs", *above])
@@ -184,5 +194,5 @@ def write_holes(folder, crate, lost):
                 os.remove(f"{folder}/{place}/{name}/{written}")
         module = ".".join(["Rattle", crate, "proofs", *above, name, "Statement"])
         with open(f"{folder}/{place}/{name}/Proof.antt", "w", encoding="utf-8") as it:
-            it.write(f"use {module}.{{statement}}\n\n")
-            it.write(f"pub {name}_spec : {{M : Type 1}} → statement M\n{name}_spec = ?\n")
+            it.write(f"use {module}.{{statement}}\nuse Rattle.{crate}.proofs.{HOLE}.{{hole}}\n\n")
+            it.write(f"pub {name}_spec : {{M : Type 1}} → statement M\n{name}_spec = hole\n")

@@ -5,21 +5,37 @@ It listens on 127.0.0.1, knows nothing of a game, and answers nothing by itself.
 
 import socket
 import struct
+import time
 
-from props.checks import Failed
+from props.checks import PATIENCE, Failed
 
-# How many seconds a test waits for a player.
-WAIT = 60
+# How many bytes are sent at a time.
+PORTION = 65536
 
 WELCOME = '1 ann 1041253132 localhost'
 
 OWN_INFO = '2 %s 1 1 0 0 0 0 1 1 10 0 1 0 1 1500.00 0 0 0 0 0 UTC'
 
 
+def keeps_port(port=0):
+    """A socket that keeps a port, this one or any, on which it does not listen: nobody else gets it. If the port had a
+    listener, a process that another test begins at this moment may still hold it, and is waited for."""
+    kept, end = socket.socket(), time.monotonic() + PATIENCE
+    kept.setsockopt(socket.SOL_SOCKET, socket.SO_REUSEADDR, 1)
+    while True:
+        try:
+            kept.bind(('127.0.0.1', port))
+            return kept
+        except OSError:
+            if time.monotonic() > end:
+                raise
+            time.sleep(0.01)
+
+
 class Listener:
     """A listener on a port of its own, and the connection that was accepted last."""
 
-    def __init__(self, port=0, wait=WAIT):
+    def __init__(self, port=0, wait=PATIENCE):
         self.wait = wait
         self.listener = socket.socket()
         self.listener.setsockopt(socket.SOL_SOCKET, socket.SO_REUSEADDR, 1)
@@ -63,8 +79,10 @@ class Listener:
         self.send_bytes(b''.join(line.encode('latin-1') + b'\r\n' for line in lines))
 
     def send_bytes(self, sent):
-        """Sends bytes: a part of a line, or what else comes to a test's mind."""
-        self.connection.sendall(sent)
+        """Sends bytes: a part of a line, or what else comes to a test's mind. Each portion has the time of a call: on a
+        machine that does much else a slow reader takes minutes for many megabytes."""
+        for start in range(0, len(sent), PORTION):
+            self.connection.sendall(sent[start:start + PORTION])
 
     def drop(self):
         """Ends the connection."""

@@ -40,7 +40,8 @@ def fault_in(value, wanted, name):
         return fault_in(value, *referred(wanted['$ref'], name))
     if 'oneOf' in wanted:
         fits = [one for one in wanted['oneOf'] if fault_in(value, one, name) is None]
-        return None if len(fits) == 1 else '%d of its kinds fit' % len(fits)
+        missing = [one for one in wanted.get('required', []) if one not in value]
+        return None if len(fits) == 1 and not missing else '%d of its kinds fit, without %r' % (len(fits), missing)
     allowed = [wanted['const']] if 'const' in wanted else wanted.get('enum')
     if allowed and not any(type(one) is type(value) and one == value for one in allowed):
         return '%r is not one of %r' % (value, allowed)
@@ -55,7 +56,7 @@ def fault_in(value, wanted, name):
 def fault_of_parts(value, wanted, name):
     """What is wrong with the members of an object, the items of an array, a number or a string."""
     if isinstance(value, dict):
-        if list(value) != wanted['required'] or list(value) != list(wanted['properties']):
+        if list(value) != [one for one in wanted['properties'] if one in value or one in wanted['required']]:
             return 'its members are %r' % list(value)
         return next(filter(None, (fault_in(value[one], wanted['properties'][one], name) for one in value)), None)
     if isinstance(value, list):

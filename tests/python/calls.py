@@ -135,7 +135,7 @@ def boards_have_names_for_their_numbers(counts):
     counts.same((board.player, board.opponent, board.length, board.score, board.opponent_score),
                 (b'You', b'someplayer', 3, 0, 1), 'names and scores')
     counts.same((board.turn, board.dice, board.opponent_dice, board.cube, board.colour, board.direction),
-                (1, (6, 2), (0, 0), 1, 1, -1), 'the turn')
+                (fibs.events.Side.PLAYER, (6, 2), None, 1, 1, -1), 'the turn')
     counts.same((board.may_double, board.opponent_may_double, board.was_doubled), (True, True, False), 'doubling')
     start = tuple({6: 5, 8: 3, 13: 5, 24: 2}.get(place, 0) for place in range(26))
     counts.same((board.checkers, board.opponent_checkers), (start, start), 'checkers')
@@ -226,7 +226,8 @@ def a_board_after_a_decision(counts):
         after = board.after(play)
         counts.check(board.differs(after) and after.phase == fibs.Phase.OPPONENT_ACTS, 'a board that differs')
     after = board.after(fibs.Decision.move([(5, 3), (3, 2)]))
-    counts.same((after.checkers[2], after.checkers[5], after.dice, after.turn), (1, 0, (0, 0), -1), 'a play')
+    counts.same((after.checkers[2], after.checkers[5], after.dice, after.turn),
+                (1, 0, None, fibs.events.Side.OPPONENT), 'a play')
     counts.same(fibs.Board(BOARD).after(fibs.ROLL, (2, 1)), board, 'a roll')
     counts.check(not board.differs(fibs.Board(MOVES + b' ')), 'the same board')
     for decision, dice in [(fibs.ROLL, (2, 1)), (fibs.ACCEPT, (0, 0)), (fibs.Decision.move([(8, 7)]), (0, 0))]:
@@ -246,7 +247,7 @@ def a_board_of_the_other_side(counts):
     turned = real.turned()
     counts.same((turned.checkers, turned.opponent_checkers, turned.score, turned.opponent_score, turned.colour,
                  turned.direction, turned.opponent_dice, turned.turn),
-                (real.opponent_checkers, real.checkers, 1, 0, -1, 1, (6, 2), 1), 'the sides')
+                (real.opponent_checkers, real.checkers, 1, 0, -1, 1, (6, 2), fibs.events.Side.OPPONENT), 'the sides')
     counts.same(turned.phase, fibs.Phase.OPPONENT_ACTS, 'the user acts')
     theirs = fibs.Board(REAL.replace(b':1:6:2:0:0:', b':-1:0:0:6:2:'))
     counts.same((theirs.phase, theirs.plays()), (fibs.Phase.OPPONENT_ACTS, []), 'the opponent acts')
@@ -333,7 +334,7 @@ def decisions_are_spelled_and_read(counts):
 
 def messages_have_fields(counts):
     counts.same(fibs.fields('5 bob - ann 1 0 1500.5 3 2 1 host pro a b'),
-                (b'bob', b'-', b'ann', True, False, 150050, 3, 2, 1, b'host', b'pro', b'a b'), 'of a player')
+                (b'bob', None, b'ann', True, False, 150050, 3, 2, 1, b'host', b'pro', b'a b'), 'of a player')
     long = b'12 bob ' + b'x' * 9000
     counts.same(fibs.read(long).fields, (b'bob', b'x' * 9000), 'a long text')
     for line in b'', b'hello', b'5 bob', BOARD:
@@ -352,7 +353,7 @@ MESSAGES = [
     ('3', fibs.messages.MotdBegin()),
     ('4', fibs.messages.MotdEnd()),
     ('5 bob - ann 1 0 1500.5 3 2 1 host pro a b', fibs.Player(
-        b'bob', b'-', b'ann', True, False, 150050, 3, 2, 1, b'host', b'pro', b'a b')),
+        b'bob', None, b'ann', True, False, 150050, 3, 2, 1, b'host', b'pro', b'a b')),
     ('6', fibs.messages.WhoInfoEnd()),
     ('7 bob bob logs in.', fibs.messages.Login(b'bob', b'bob logs in.')),
     ('8 bob bob logs out.', fibs.messages.Logout(b'bob', b'bob logs out.')),
@@ -580,7 +581,8 @@ def players_come_and_go(counts):
         players.note(line)
     counts.same(([player.name for player in players], len(players)), ([b'ann', b'bob'], 2), 'two players')
     bob = players.get('bob')
-    counts.same((bob, bob.rating, bob.opponent, bob.ready), (players[1], 162350, b'ann', True), 'their fields')
+    counts.same((bob, bob.rating, bob.rating_hundredths, bob.opponent, bob.client, bob.ready),
+                (players[1], '1623.50', 162350, b'ann', None, True), 'their fields')
     counts.same(players.get(b'carl'), None, 'nobody')
     counts.same(('bob' in players, b'carl' in players, bob in players, bob._replace(idle=9) in players),
                 (True, False, True, False), 'who is there')

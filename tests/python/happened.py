@@ -39,7 +39,7 @@ def by_hand(board):
     """All that is allowed on a board with two dice that differ, of as many steps as a listed play has."""
     found = set()
     count = len(board.plays()[0].steps)
-    for dice in itertools.permutations(board.dice, count):
+    for dice in itertools.permutations(board.dice or (0, 0), count):
         for sources in itertools.product(range(1, 26), repeat=count):
             steps = tuple((source, max(source - die, 0)) for source, die in zip(sources, dice))
             if board.allows(fibs.Decision.move(steps)):
@@ -107,7 +107,7 @@ def boards_say_more_than_fields(counts):
 
 def saved_matches_are_read(counts):
     for row, wanted in [(b' *bob                 5                2 -  3', (b'bob', 5, 2, 3, True)),
-                        (b'**carl  unlimited 0 - 12', (b'carl', fibs.UNLIMITED, 0, 12, True)),
+                        (b'**carl  unlimited 0 - 12', (b'carl', None, 0, 12, True)),
                         ('  eve 7 1 - 0 ', (b'eve', 7, 1, 0, False)), (b'* 5 2 - 3', None), (b'***bob 5 2 - 3', (
                             b'*bob', 5, 2, 3, True)), (b'bob 5 2 3', None), (b'bob -5 2 - 3', None), (b'', None),
                         (b'  opponent          matchlength   score (your points first)', None),
@@ -125,7 +125,7 @@ PLAYER, OPPONENT = fibs.events.Side.PLAYER, fibs.events.Side.OPPONENT
 HAPPENED = [
     (b'hello', []),
     (b'1 ann 1041253132 localhost', [fibs.events.LoggedIn(b'ann')]),
-    (b'bob wants to play an unlimited match with you.', [fibs.events.Invited(b'bob', fibs.UNLIMITED)]),
+    (b'bob wants to play an unlimited match with you.', [fibs.events.Invited(b'bob', None)]),
     (b'bob wants to resume a saved match with you.', [fibs.events.InvitedToResume(b'bob')]),
     (b"** There's no saved match with bob. Please give a match length.", [fibs.events.NothingSaved(b'bob')]),
     (JOINED, [fibs.events.Joined(b'bob', 3)]),
@@ -212,8 +212,11 @@ def as_object(event, number):
     for field, value in event._asdict().items():
         if field == 'score' and isinstance(value, tuple):
             told['score'], told['opponent_score'] = value
-        elif field == 'rating':
-            told[field] = value / 100
+        elif field == 'rating_hundredths':
+            told['rating'] = float(event.rating)
+            assert value == round(100 * told['rating'])
+        elif field == 'length' and value is None:
+            told[field] = fibs.UNLIMITED
         elif isinstance(value, enum.IntEnum):
             told[field] = value.name.lower()
         else:

@@ -1,13 +1,15 @@
-"""Saved sessions: what examples/read_session.py and scripts/fibs-mat make of them."""
+"""Saved sessions: what examples/read_session.py, scripts/fibs-mat and MatchFiles of the package make of them."""
 
+import copy
 import os
 import pathlib
+import pickle
 import subprocess
 import sys
 import tempfile
 
 import matchfiles
-from props.package import ROOT
+from props.package import ROOT, fibs
 from props.server import WELCOME
 
 START = {6: 5, 8: 3, 13: 5, 24: 2}
@@ -94,18 +96,41 @@ MATCH = """ 3 point match
 """
 
 
+def data_of(lines):
+    """The lines of a session as the server sends them."""
+    return b'\r\n'.join(one.encode('latin-1') for one in lines) + b'\r\n'
+
+
 def run(counts, path, lines, *words):
     """What a program prints of a session, on both streams, and its status."""
-    data = b'\r\n'.join(one.encode('latin-1') for one in lines) + b'\r\n'
-    told = subprocess.run([sys.executable, '-B', str(ROOT / path), *words], input=data, capture_output=True,
+    told = subprocess.run([sys.executable, '-B', str(ROOT / path), *words], input=data_of(lines), capture_output=True,
                           env={**os.environ, 'PYTHONPATH': str(ROOT / 'python'),
                                'FIBS': str(pathlib.Path(counts.program).resolve())}, timeout=60)
     return told.stdout.decode(), told.stderr.decode(), told.returncode
 
 
 def match_of(counts, lines, match='last'):
-    """The match file of the match that is played last in a session, or of another one."""
-    return run(counts, 'scripts/fibs-mat', lines, '--match', match)
+    """The match file of the match that is played last in a session, or of another one. The package makes the same one
+    of the lines as they are read, and of what its own events told of them before."""
+    told = run(counts, 'scripts/fibs-mat', lines, '--match', match)
+    for has_events in False, True:
+        counts.same(made_by_the_package(lines, match, has_events), told, 'by the package, of %r' % (lines[-1:],))
+    return told
+
+
+def made_by_the_package(lines, match, has_events):
+    """The same as fibs-mat prints, by MatchFiles."""
+    said = []
+    files = fibs.MatchFiles(report=said.append)
+    with fibs.Events() as events:
+        for line in fibs.Lines(data_of(lines)):
+            files.hear(line, *[events.hear(line)] * has_events)
+    wanted = ({'last': files.latest} if match == 'last' else
+              {str(number): file for number, file in enumerate(files.files, 1)}).get(match)
+    if not wanted:
+        said.append('%d matches can be told' % len(files.files))
+    return (wanted.text.decode('latin-1') if wanted else '', ''.join('fibs-mat: %s\n' % one for one in said),
+            0 if wanted else 1)
 
 
 def played_turns_are_printed(counts):
@@ -231,8 +256,114 @@ def each_match_of_a_session_can_be_had(counts):
     # a new match with the same player, after one that was not played to its end
     told, said, status = match_of(counts, session()[:12] + session()[1:])
     counts.same((told, said, status), (MATCH, '', 0), 'the same player once more')
+    # that one is broken off too, and it goes on, not the one before it
+    for at in 27, 32:
+        shown = [one for one in session()[:at] if one.startswith('board')][-1:]
+        lines = session()[:12] + session()[1:at] + again + shown + session()[at:]
+        counts.same(match_of(counts, lines), (MATCH, '', 0), 'the later of two is broken off at line %d' % at)
 
 
-TESTS = [played_turns_are_printed, a_session_becomes_a_match_file, gnu_backgammon_imports_it,
+def what_is_told_twice_is_done_once(counts):
+    """A double that is told again to who comes back; and of a session with one match there is no other one."""
+    lines = [one for line in session() for one in [line] * (2 if 'double.' in line or 'doubles.' in line else 1)]
+    counts.check(len(lines) > len(session()), 'doubles are told twice')
+    counts.same(match_of(counts, lines), (MATCH, '', 0), 'doubles that are told twice')
+    for wanted, status in ('1', 0), ('0', 1), ('2', 1):
+        counts.same(match_of(counts, session(), wanted)[2], status, 'match %s' % wanted)
+
+
+# The checkers after a play of 5 and 1 that 4 and 2 make too, and the end of its match file.
+PLAYED = after(START, (13, 7))
+FILE_OF_PLAYED = ['  1) 51: 13/8 8/7                ', '']
+
+
+def nothing_goes_on_in_the_next_game(counts):
+    """What was told before the end of a game or of a match says nothing of the next one: neither a roll of which no
+    board came, nor an offer to resign that was accepted, or that nobody answered. A connection hides the next game's
+    texts, or its dice but for the text."""
+    rolls, offers = 'bob rolls 6 and 6.', "bob wants to resign. You will win 1 point. Type 'accept' or 'reject'."
+    won = 'You win the game and get 1 point. Congratulations!'
+    joins = '** Player eve has joined you for a 1 point match.'
+    for case, told, length, name in [
+            ('a roll, then another game', [rolls, won], 3, 'bob'),
+            ('a roll, then another match', [rolls, won], 1, 'bob'),
+            ('a roll, then a match with another player', [rolls, won, joins], 1, 'eve'),
+            ('an offer, then another game', [offers, won], 3, 'bob'),
+            ('an offer, then another match', [offers, won], 1, 'bob'),
+            ('an offer without an answer, then a match with another player', [offers, joins], 1, 'eve')]:
+        next_one = {'length': length, 'name': name, 'scores': (1 if length == 3 else 0, 0)}
+        dice = 'You rolled 5, %s rolled 1' % name if rolls in told else line(START, START, 1, (5, 1), **next_one)
+        found, said, status = match_of(counts, [
+            WELCOME, line(START, START, 1, (6, 3), length=length), line(OWN1, START, -1, length=length), *told,
+            dice, line(PLAYED, START, -1, **next_one)])
+        counts.same((found.splitlines()[-2:], said, status), (FILE_OF_PLAYED, '', 0), case)
+
+
+def a_double_that_stood_was_not_dropped(counts):
+    """Whoever doubled has not won, or has won more than the cube showed."""
+    begun = [WELCOME, line(START, START, 1, (6, 3)), line(OWN1, START, -1)]
+    his = [*begun, "bob doubles. Type 'accept' or 'reject'.", line(OWN1, START, 1, doubled=1)]
+    own = [*begun, 'bob rolls 5 and 2.', line(OWN1, OTHER1, 1),
+           'You double. Please wait for bob to accept or reject.', line(OWN1, OTHER1, -1)]
+    for case, lines, end, is_dropped in [
+            ('bob wins a point after his double', his, 'bob wins the game and gets 1 point. Sorry.', True),
+            ('he loses it', his, 'You win the game and get 1 point. Congratulations!', False),
+            ('he wins two', his, 'bob wins the game and gets 2 points. Sorry.', False),
+            ('I win a point after my double', own, 'You win the game and get 1 point. Congratulations!', True),
+            ('I lose it', own, 'bob wins the game and gets 1 point. Sorry.', False),
+            ('I win four', own, 'You win the game and get 4 points. Congratulations!', False)]:
+        found, said, status = match_of(counts, [*lines, end])
+        counts.same(('Doubles' in found, ' Drops' in found, said, status), (True, is_dropped, '', 0), case)
+
+
+def the_package_takes_lines_of_any_kind(counts):
+    """Bytes, a str, a Line; one that was cut says nothing. A file says what it is of, and for whom."""
+    cut = fibs.Lines().feed(session()[6].encode() + b' ' * fibs.MAX_LINE + b'\n')[0]
+    for case, kind in [('bytes', str.encode), ('str', str), ('a Line', fibs.read),
+                       ('a memoryview', lambda one: memoryview(one.encode()))]:
+        files = fibs.MatchFiles('nobody')
+        counts.same((files.files, files.latest), ([], None), '%s: nothing yet' % case)
+        for one in session():
+            files.hear(kind(one))
+            files.hear(cut)
+        file = fibs.MatchFile(b'bob', MATCH.encode(), b'ann', 3, 2, 1, False)
+        counts.same((files.files, files.latest), ([file], file), case)
+    for again in copy.copy, copy.deepcopy, pickle.dumps:
+        counts.raises(TypeError, again, files)
+    for wrong in None, 5, ['board'], session():
+        counts.raises(TypeError, files.hear, wrong)
+        counts.raises(TypeError, files.hear, wrong, [])
+
+
+def the_name_and_the_length_are_as_they_are_told(counts):
+    how = {'length': 9999, 'name': 'bob'}
+    lines = [line(START, START, 1, (6, 3), **how), line(OWN1, START, -1, **how)]
+    for name, wanted in ('ann', b'ann'), (b'\xff', b'\xff'), ('\xe9', b'\xc3\xa9'), (None, b'You'):
+        files = fibs.MatchFiles(*[name][:name is not None])
+        for one in lines:
+            files.hear(one.encode('latin-1'))
+        file = files.latest
+        counts.same((file.name, file.opponent, file.length, file.score, file.opponent_score, file.is_over),
+                    (wanted, b'bob', None, 0, 0, False), 'the name %r' % name)
+        counts.check(wanted + b' : 0' in file.text and b'bob : 0' in file.text, 'it stands in the file')
+    won = fibs.MatchFiles()
+    for one in [*session()[:19], 'bob wins the game and gets 4 points. Sorry.']:
+        won.hear(one)
+    counts.same(won.latest[2:], (b'ann', 3, 0, 4, True), 'a match that is won')
+
+
+def what_lists_the_plays_may_be_given(counts):
+    """A play that it does not list is not found, and that is reported."""
+    asked, said = [], []
+    files = fibs.MatchFiles(report=said.append, plays=lambda line: asked.append(line) or [[(24, 21), (21, 15)]])
+    for one in session()[4], session()[6], session()[10]:
+        files.hear(one)
+    counts.check(asked and all(fibs.read(one).kind == fibs.BOARD for one in asked), 'boards are asked for')
+    counts.same(said, ['line 3: the plays before this board are not known; of the game the result is kept'], 'report')
+
+
+TESTS = [played_turns_are_printed, the_package_takes_lines_of_any_kind, the_name_and_the_length_are_as_they_are_told,
+         what_lists_the_plays_may_be_given, a_session_becomes_a_match_file, gnu_backgammon_imports_it,
          what_a_lost_connection_hid_is_filled_in, offers_to_resign_are_no_plays, what_can_not_be_told_is_said,
-         each_match_of_a_session_can_be_had]
+         each_match_of_a_session_can_be_had, what_is_told_twice_is_done_once,
+         nothing_goes_on_in_the_next_game, a_double_that_stood_was_not_dropped]
