@@ -176,6 +176,7 @@ install-surface:
 	@ln -sf fibs.1 $(DESTDIR)$(SHARE)/man/man1/fibs-mat.1
 	@install -m 644 completions/typed $(DESTDIR)$(SHARE)/fibs/typed
 	@install -m 755 scripts/keys.pl $(DESTDIR)$(SHARE)/fibs/keys.pl
+	@install -m 644 python/fibs/match_files.py $(DESTDIR)$(SHARE)/fibs/match_files.py
 	@install -m 644 scripts/inputrc $(DESTDIR)$(SHARE)/fibs/inputrc
 	@install -m 644 examples/config $(DESTDIR)$(SHARE)/fibs/config
 	@install -m 644 completions/fibs.bash $(DESTDIR)$(SHARE)/bash-completion/completions/fibs
@@ -192,7 +193,8 @@ install-page:
 
 # all that the rules above put there, and the folders that are of this alone
 INSTALLED = bin/fibs bin/fibs-play bin/fibs-mat bin/fibs-page share/man/man1/fibs.1 share/man/man1/fibs-play.1 \
-	share/man/man1/fibs-mat.1 share/fibs/typed share/fibs/keys.pl share/fibs/inputrc share/fibs/config share/bash-completion/completions/fibs \
+	share/man/man1/fibs-mat.1 share/fibs/typed share/fibs/keys.pl share/fibs/inputrc share/fibs/config \
+	share/fibs/match_files.py share/bash-completion/completions/fibs \
 	share/bash-completion/completions/fibs-play share/zsh/site-functions/_fibs \
 	share/fish/vendor_completions.d/fibs.fish share/fish/vendor_completions.d/fibs-play.fish \
 	include/fibs.h lib/libfibs.a lib/libfibs.so lib/$(SONAME) lib/pkgconfig/fibs.pc
