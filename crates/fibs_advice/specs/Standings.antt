@@ -194,6 +194,22 @@ abbrev pub is_owed : Standing → Bool
 is_owed S.Unsettled = false
 is_owed standing = owes_answer standing
 
+-- a refusal changes nothing: it is known that an offer of the opponent waits, or that he has accepted one
+abbrev pub keeps_offer : Standing → Bool
+keeps_offer S.Taken = true
+keeps_offer S.Doubled = true
+keeps_offer standing = is_owed standing
+
+-- a roll or a move of the opponent changes nothing: the board says all, or is still to come; or an offer of his waits,
+-- or was just answered, or is over
+abbrev pub keeps_while_he_plays : Standing → Bool
+keeps_while_he_plays S.Playing = true
+keeps_while_he_plays S.Answered = true
+keeps_while_he_plays S.Continued = true
+keeps_while_he_plays S.Anew = true
+keeps_while_he_plays S.Fresh = true
+keeps_while_he_plays standing = is_owed standing
+
 -- an offer of the opponent is told by texts, and no board shows it
 abbrev pub is_told_by_text : Standing → Bool
 is_told_by_text S.Doubled = true

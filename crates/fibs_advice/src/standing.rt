@@ -1,7 +1,7 @@
 //! What the user waits for.
 ghost use Rattle.std.specs.Prelude.{◌≡◌, ◌⊎◌, true, false, IfSome};
 ghost use Rattle.fibs_advice.specs.Situations.{after_another};
-ghost use Rattle.fibs_advice.specs.Standings.{after_answer, after_confirmed, after_not_invited, after_sent, has_offer, hides_offers, is_called, is_in_game, is_in_match, is_open_again, is_owed, is_told_by_text, is_undoubled, is_unsure, leads_in_match, leads_to, owes_answer, repeats, shows, tells};
+ghost use Rattle.fibs_advice.specs.Standings.{after_answer, after_confirmed, after_not_invited, after_sent, has_offer, hides_offers, is_called, is_in_game, is_in_match, is_open_again, is_owed, is_told_by_text, is_undoubled, is_unsure, keeps_offer, keeps_while_he_plays, leads_in_match, leads_to, owes_answer, repeats, shows, tells};
 
 use fibs_events::told::Told;
 
@@ -298,7 +298,9 @@ impl Standing {
     }
 
     /// Whether a refusal changes nothing: an offer of the opponent, or his answer, is known.
-    fn keeps_offer(self) -> bool {
+    fn keeps_offer(self) -> bool
+        ensures { result ≡ keeps_offer self }
+    {
         matches!(
             self,
             Standing::Taken
@@ -310,13 +312,15 @@ impl Standing {
     }
 
     /// Whether a roll or a move of the opponent changes nothing.
-    fn keeps_while_he_plays(self) -> bool {
+    fn keeps_while_he_plays(self) -> bool
+        ensures { result ≡ keeps_while_he_plays self }
+    {
         matches!(
             self,
-            Standing::Playing
+            Standing::Owed
                 | Standing::Resigned
                 | Standing::Conceded
-                | Standing::Owed
+                | Standing::Playing
                 | Standing::Answered
                 | Standing::Continued
                 | Standing::Anew
