@@ -1,5 +1,5 @@
 -- What is remembered on a connection, each part in the box of what it is of (the project's own).
-use Rattle.std.specs.Prelude.{◌≡◌, ◌⊎◌, ◌++◌, ◌==◌, ◌&&◌, ◌||◌, ℕ, ℤ, pos, int_le, List, [], codes, Bool, not, true, false, Option, Some, None, is_some, if◌then◌else◌}
+use Rattle.std.specs.Prelude.{◌≡◌, ◌≢◌, ◌⊎◌, ◌++◌, ◌==◌, ◌&&◌, ◌||◌, ℕ, ℤ, pos, int_le, List, [], codes, Bool, not, true, false, Option, Some, None, is_some, if◌then◌else◌}
 use Rattle.std.specs.Ordering.{int_eq}
 use Rattle.std.specs.Str.{bytes_eq}
 use Rattle.fibs_fields.specs.Board.{BoardFields, field_of}
@@ -152,6 +152,14 @@ abbrev pub denies_another : Told → List ℕ → Situation → Bool
 denies_another T.NoMatch name s = not (bytes_eq s.opponent.name.items name)
 denies_another T.NotInvited name s = not (bytes_eq name []) && not (bytes_eq s.inviter.name.items name)
 denies_another told name s = false
+
+-- the name that a text has is kept: a match begins or is resumed; the user is invited now; any other text changes what
+-- he waits for
+abbrev pub KeepsName : Told → Standing → Standing → Type 0
+KeepsName T.Begins standing after = Unit {0}
+KeepsName T.Resumes standing after = Unit {0}
+KeepsName T.Invited standing after = after ≡ S.Invited
+KeepsName told standing after = after ≢ standing
 
 -- nothing but the name of the opponent changes, who was not known
 abbrev pub NamedAlone : Situation → Situation → Type 0

@@ -4,7 +4,7 @@ ghost use Rattle.std.specs.Prelude.{◌≡◌, ◌≢◌, ◌≤◌, ◌↔◌, 
 ghost use Rattle.arrayvec.specs.ArrayVec.{array_vec_len};
 ghost use Rattle.fibs_position.specs.GameOf.{game_of};
 ghost use Rattle.fibs_position.specs.Phases.{phase_of};
-ghost use Rattle.fibs_advice.specs.Situations.{GivesNoTurn, IsNewOpponent, NamedAlone, SaysTurnOf, denies_another, game_after, goes_on, hides_turn, inviter_of, kept_of, left_by, left_told, met, new_game, new_turn, no_name, open_offer, opened_with, opponent_of, tells_turn, turn_noted, waiting_after};
+ghost use Rattle.fibs_advice.specs.Situations.{GivesNoTurn, IsNewOpponent, KeepsName, NamedAlone, SaysTurnOf, denies_another, game_after, goes_on, hides_turn, inviter_of, kept_of, left_by, left_told, met, new_game, new_turn, no_name, open_offer, opened_with, opponent_of, tells_turn, turn_noted, waiting_after};
 ghost use Rattle.fibs_advice.specs.Standings.{after_confirmed, after_not_invited, is_called, is_owed, is_undoubled};
 
 mod lines;
@@ -33,8 +33,7 @@ enum Waiting {
     Other,
 }
 
-/// An offer that was open when the match was left, or the connection before this one ended, and of which nothing was
-/// heard since.
+/// An offer that was open when the match was left or the connection ended, and of which nothing was heard since.
 #[derive(Clone, Copy, Debug, PartialEq, Eq)]
 enum Left {
     /// There is none.
@@ -613,7 +612,9 @@ impl Situation {
     }
 
     /// Whether the name that a text has is to be kept, after which the user waits for this.
-    fn keeps_name(&self, told: Told, after: Standing) -> bool {
+    fn keeps_name(&self, told: Told, after: Standing) -> bool
+        ensures { IsTrue result ↔ KeepsName told self.now.standing after }
+    {
         match told {
             Told::Begins | Told::Resumes => true,
             Told::Invited => after == Standing::Invited,
@@ -743,8 +744,7 @@ impl Situation {
         }
     }
 
-    /// Takes note of a turn that a board gives away below an offer to resign: the user did not have it, and has no
-    /// dice.
+    /// Takes note of a turn that a board gives away below an offer to resign: the user had none, and has no dice.
     fn note_given_turn(&mut self)
         ensures opponent { self.new.opponent ≡ self.old.opponent }
         ensures asked { self.new.asked ≡ self.old.asked }
