@@ -1,7 +1,9 @@
 -- What is advised in a state, and how a terminal says it (the project's own).
 use Rattle.std.specs.Prelude.{◌≡◌, ◌≢◌, ◌++◌, ◌∷◌, ℕ, List, [], codes, take, length, nat_lt, if◌then◌else◌, Bool, true, false, Option, Some, None, IfSome, is_none, option_map}
+use Rattle.fibs_fields.specs.Board.{BoardFields}
 use Rattle.fibs_position.specs.DecisionValue.{accept, decision_of, double, reject, roll}
 use Rattle.fibs_position.specs.NumbersOf.{counted}
+use Rattle.fibs_position.specs.Phases.{decides, phase_of}
 use Rattle.fibs_commands.specs.Commands.{command_of}
 use Rattle.fibs_commands.specs.PlainCommands.{automove_off, greedy_off}
 use Rattle.fibs_position.specs.declared.decision.Decision.{Decision}
@@ -57,6 +59,11 @@ pub record MaySay (t : Talk) (standing : Standing) (o : Offers) (send other : Op
     pub answer : answers row ≡ true → may_answer t standing ≡ true
     pub shown : hides_offers standing ≡ false → may_decide o ≡ true → shows_offers row ≡ true
     pub named : is_unsure standing ≡ true → may_decide o ≡ true → names_way_on row ≡ true
+
+-- the user decides on a board, if one is shown
+abbrev pub is_deciding : Option BoardFields → Bool
+is_deciding None = false
+is_deciding (Some b) = decides (phase_of b)
 
 -- the decisions by which a game goes on, on a board in this phase: to double only if a double may be advised
 abbrev pub AreWays : Phase → Bool → Option Decision → Option Decision → Type 0

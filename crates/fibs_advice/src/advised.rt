@@ -8,7 +8,7 @@ ghost use Rattle.fibs_position.specs.Phases.{phase_of};
 ghost use Rattle.fibs_position.specs.DecisionValue.{decision_of, roll};
 ghost use Rattle.fibs_commands.specs.PlainOf.{plain_value};
 ghost use Rattle.fibs_session.specs.Calls.Standing.{StandsAfter};
-ghost use Rattle.fibs_advice.specs.Advised.{Advises, AreWays, MaySay, SendsWays};
+ghost use Rattle.fibs_advice.specs.Advised.{Advises, AreWays, MaySay, SendsWays, is_deciding};
 ghost use Rattle.fibs_advice.specs.Passing.{AreRenewed, IsRenewed, is_an_offer, is_greeted, may_answer};
 ghost use Rattle.fibs_advice.specs.Sending.{MaySend, rules_allow};
 ghost use Rattle.fibs_advice.specs.RowStates.{is_declined, is_double, is_off_table, is_so_in, may_double, may_have_turn, may_wait, must_speak, own_row, plays_himself};
@@ -256,7 +256,9 @@ fn ways(alloc: Global, client: &Client, situation: &Situation) -> Result<Ways, A
 }
 
 /// Whether the user decides on the board that is shown.
-fn is_deciding(client: &Client) -> bool {
+fn is_deciding(client: &Client) -> bool
+    ensures { (t : Talk) → StandsAfter client.now t → result ≡ is_deciding (shown_now t) }
+{
     let Some(game) = client.game() else {
         return false;
     };
