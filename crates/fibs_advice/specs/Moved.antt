@@ -1,6 +1,7 @@
 -- A text by which the server tells a move, as `bob moves 12-15 15-18 .` (FIBS), and the same in the user's numbers; and
 -- a command that was sent, with its steps in those (the project's own).
-use Rattle.std.specs.Prelude.{◌++◌, ◌&&◌, ◌||◌, ℕ, Bool, false, nat_lt, List, [], ◌∷◌, Option, Some, None, codes}
+use Rattle.std.specs.Prelude.{◌++◌, ◌&&◌, ◌||◌, ℕ, Bool, false, nat_eq, nat_lt, List, [], ◌∷◌, Option, Some, None, codes}
+use Rattle.std.specs.List.{list_any, starts_with}
 use Rattle.std.specs.Str.{bytes_eq}
 use Rattle.fibs_fields.specs.Decimal.{decimal_up_to}
 use Rattle.fibs_fields.specs.Split.{before, after}
@@ -12,6 +13,7 @@ use Rattle.fibs_position.specs.declared.direction.Direction.TheVariants.{Down, U
 use Rattle.fibs_position.specs.declared.numbers.Numbers.{Numbers}
 use Rattle.fibs_commands.specs.CommandReading.{read_command}
 use Rattle.fibs_commands.specs.Commands.{command_of, steps_text}
+use Rattle.fibs_advice.specs.Spelling.{between}
 
 -- who moves, and each step, by numbers by which the user goes this way: a place is one place, whoever comes to it
 abbrev pub moved_text : Direction → List ℕ → List Hop → List ℕ
@@ -53,6 +55,22 @@ names_target (Some name) = names_place name
 -- a word names two places, as a step does
 abbrev pub names_step : List ℕ → Bool
 names_step word = names_place (before 45 word) && names_target (after 45 word)
+
+-- a word speaks of moving: `move`, `moves`, `moved`
+abbrev pub says_move : List ℕ → Bool
+says_move word = starts_with nat_eq word (codes "move")
+
+-- a text, whose words are between single spaces, names the places of a step
+abbrev pub has_step : List ℕ → Bool
+has_step text = list_any names_step (between 32 text)
+
+-- a text speaks of moving
+abbrev pub has_move : List ℕ → Bool
+has_move text = list_any says_move (between 32 text)
+
+-- it does, and names the places of a step
+abbrev pub names_steps : List ℕ → Bool
+names_steps text = has_move text && has_step text
 
 -- what was sent, in the numbers that the user reads alone
 abbrev pub sent_told : Numbers → Direction → List ℕ → List ℕ

@@ -3,7 +3,7 @@ ghost use Rattle.std.specs.Prelude.{◌≡◌, ◌++◌, IfOk, IfSome, OnOk, opt
 ghost use Rattle.fibs_position.specs.DecisionValue.{decision_of};
 ghost use Rattle.fibs_commands.specs.Commands.{steps_text};
 ghost use Rattle.fibs_rules.specs.PlayValue.{hops_of};
-ghost use Rattle.fibs_advice.specs.Moved.{beside_in, beside_text, moved_text, names_place, names_step, sent_text, sent_told};
+ghost use Rattle.fibs_advice.specs.Moved.{beside_in, beside_text, has_move, has_step, moved_text, names_place, names_step, names_steps, says_move, sent_text, sent_told};
 
 use crate::spelling::moves::typed_move;
 use fibs_commands::{decision_text, read_command};
@@ -111,27 +111,30 @@ fn is_step(word: &[u8]) -> bool
 }
 
 /// Whether a text names the places of a step.
-pub fn has_step(text: &[u8]) -> bool {
-    for word in text.split(|byte| *byte == b' ') {
-        if is_step(word) {
-            return true;
-        }
-    }
-    false
+pub fn has_step(text: &[u8]) -> bool
+    ensures { result ≡ has_step text.now }
+{
+    text.split(|byte| *byte == b' ').any(is_step)
+}
+
+/// Whether a word speaks of moving.
+fn says_move(word: &[u8]) -> bool
+    ensures { result ≡ says_move word.now }
+{
+    word.starts_with(b"move")
 }
 
 /// Whether a text speaks of moving.
-fn has_move(text: &[u8]) -> bool {
-    for word in text.split(|byte| *byte == b' ') {
-        if word.starts_with(b"move") {
-            return true;
-        }
-    }
-    false
+fn has_move(text: &[u8]) -> bool
+    ensures { result ≡ has_move text.now }
+{
+    text.split(|byte| *byte == b' ').any(says_move)
 }
 
 /// Whether a text speaks of moving, and names the places of a step.
-pub fn names_steps(text: &[u8]) -> bool {
+pub fn names_steps(text: &[u8]) -> bool
+    ensures { result ≡ names_steps text.now }
+{
     has_move(text) && has_step(text)
 }
 
