@@ -9,3 +9,4 @@ pub mod SavedLists
 pub mod SavedMatches
 pub mod ServerWords
 pub mod SettingWords
+pub mod Shown

@@ -1,4 +1,5 @@
 //! Why something was not done, in words. The number and the name follow in brackets.
+ghost use Rattle.std.specs.Prelude.{◌≡◌, codes};
 
 use crate::environment::pieces::append_all;
 use fibs_messages::Fault;
@@ -9,7 +10,10 @@ use std::fmt::Display;
 use std::io::Write;
 
 /// What a refusal says.
-pub fn refusal_words(why: Refusal) -> &'static [u8] {
+pub fn refusal_words(why: Refusal) -> &'static [u8]
+    ensures offline { why ≡ Refusal.Offline → result.now ≡ codes "There is no connection: type open." }
+    ensures no_board { why ≡ Refusal.NoBoard → result.now ≡ codes "You are in no match: invite NAME 5 begins one." }
+{
     match why {
         Refusal::AlreadyOpen => b"You are connected already.",
         Refusal::Offline => b"There is no connection: type open.",

@@ -1,4 +1,6 @@
 //! Bytes of a server as a terminal shows them: none of them acts on it.
+ghost use Rattle.std.specs.Prelude.{OnOk};
+ghost use Rattle.fibs_wording.specs.Shown.{AddsShown};
 
 use fibs_fields::hex::hex_escape;
 use std::alloc::AllocError;
@@ -32,7 +34,9 @@ fn is_plain(byte: u8) -> bool {
 }
 
 /// Appends a byte: itself, if it is printable ASCII, else `\x` and two hexadecimal digits.
-fn append_byte(byte: u8, text: &mut Vec<u8>) -> Result<(), AllocError> {
+fn append_byte(byte: u8, text: &mut Vec<u8>) -> Result<(), AllocError>
+    ensures { OnOk result (AddsShown text.old.items text.new.items) }
+{
     if is_plain(byte) {
         return text.extend_from_slice(&[byte]);
     }
@@ -40,7 +44,9 @@ fn append_byte(byte: u8, text: &mut Vec<u8>) -> Result<(), AllocError> {
 }
 
 /// Appends each byte as if it stood alone.
-fn append_bytes(bytes: &[u8], text: &mut Vec<u8>) -> Result<(), AllocError> {
+fn append_bytes(bytes: &[u8], text: &mut Vec<u8>) -> Result<(), AllocError>
+    ensures { OnOk result (AddsShown text.old.items text.new.items) }
+{
     for byte in bytes {
         append_byte(*byte, text)?;
     }
@@ -48,7 +54,9 @@ fn append_bytes(bytes: &[u8], text: &mut Vec<u8>) -> Result<(), AllocError> {
 }
 
 /// Appends a character: a letter as it is, any other by the escapes of these bytes, which it was read from.
-fn append_char(c: char, bytes: &[u8], text: &mut Vec<u8>) -> Result<(), AllocError> {
+fn append_char(c: char, bytes: &[u8], text: &mut Vec<u8>) -> Result<(), AllocError>
+    ensures { OnOk result (AddsShown text.old.items text.new.items) }
+{
     if !is_letter(c) {
         return append_bytes(bytes, text);
     }
@@ -57,7 +65,9 @@ fn append_char(c: char, bytes: &[u8], text: &mut Vec<u8>) -> Result<(), AllocErr
 }
 
 /// Appends the characters of a UTF-8 text.
-fn append_text(said: &str, text: &mut Vec<u8>) -> Result<(), AllocError> {
+fn append_text(said: &str, text: &mut Vec<u8>) -> Result<(), AllocError>
+    ensures { OnOk result (AddsShown text.old.items text.new.items) }
+{
     for c in said.chars() {
         let mut room = [0; 4];
         let bytes = c.encode_utf8(&mut room).as_bytes();
@@ -69,7 +79,9 @@ fn append_text(said: &str, text: &mut Vec<u8>) -> Result<(), AllocError> {
 /// Appends bytes of a server: printable ASCII as it is, and letters, if the terminal has them; any other byte as `\x`
 /// and two hexadecimal digits. A letter is written in UTF-8; a byte that begins none is one of Latin-1 (ISO 8859-1), as
 /// many clients write it.
-pub fn append_shown(bytes: &[u8], letters: bool, text: &mut Vec<u8>) -> Result<(), AllocError> {
+pub fn append_shown(bytes: &[u8], letters: bool, text: &mut Vec<u8>) -> Result<(), AllocError>
+    ensures { OnOk result (AddsShown text.old.items text.new.items) }
+{
     if !letters {
         return append_bytes(bytes, text);
     }
