@@ -1,5 +1,6 @@
--- Why texts only grow, how rows are broken, and which matches are known to be saved.
+-- Why texts only grow, how rows are broken, which matches are known to be saved, and what texts say of their ends.
 pub mod GrowingLemmas
 pub mod BrokenLemmas
+pub mod EndingLemmas
 pub mod SavedLemmas
 pub mod WordLemmas

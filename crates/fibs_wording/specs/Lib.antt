@@ -1,5 +1,6 @@
 -- What the server's texts say of invitations and of saved matches, matches that have ended, and how rows are broken.
 pub mod Broken
+pub mod Endings
 pub mod Greetings
 pub mod Invitations
 pub mod Matches

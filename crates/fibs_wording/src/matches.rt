@@ -1,7 +1,8 @@
 //! Matches that have ended: the score with which one did, a line of a file for each, and how they are listed.
-ghost use Rattle.std.specs.Prelude.{◌≡◌, ◌<◌, ◌↔◌, ◌⊎◌, ◌++◌, [], IfSome, IsTrue, OnOk, Some, nat_lt};
+ghost use Rattle.std.specs.Prelude.{◌≡◌, ◌<◌, ◌↔◌, ◌⊎◌, ◌++◌, [], Bool, IfSome, IsTrue, List, MatchOption, OnOk, Some, nat_lt, ℕ};
 ghost use Rattle.fibs_fields.specs.Rating.{hundredths_of};
 ghost use Rattle.fibs_fields.specs.Split.{after, before};
+ghost use Rattle.fibs_wording.specs.Endings.{SaysEnding, SaysScore, SaysWinner};
 ghost use Rattle.fibs_wording.specs.Matches.{IsRatingField, SaysPlayed, after_tab, experience_field, final_score, is_won, later, match_line, opponent_in, played_fields, rated_fields, rating_field, score_field};
 
 use crate::environment::shown::pad_from;
@@ -78,7 +79,10 @@ pub struct Ending {
 }
 
 /// Whether the user has won, and what follows that, in a text of the end of a match with this opponent.
-fn after_winner<'a>(text: &'a [u8], opponent: &[u8]) -> Option<(bool, &'a [u8])> {
+fn after_winner<'a>(text: &'a [u8], opponent: &[u8]) -> Option<(bool, &'a [u8])>
+    ensures { MatchOption result ((won : Bool) (rest : List ℕ) → ¬ SaysWinner text.now opponent.now won rest)
+        (λ told. SaysWinner text.now opponent.now told.0 told.1.now) }
+{
     if let Some(rest) = text.strip_prefix(b"You win the ") {
         return Some((true, rest));
     }
@@ -87,7 +91,9 @@ fn after_winner<'a>(text: &'a [u8], opponent: &[u8]) -> Option<(bool, &'a [u8])>
 }
 
 /// The score in what follows the winner: `3 point match 3-1 .`, whose points come first.
-fn score_in(won: bool, rest: &[u8]) -> Option<Score> {
+fn score_in(won: bool, rest: &[u8]) -> Option<Score>
+    ensures { MatchOption result ((s : Score) → ¬ SaysScore won rest.now s) (λ s. SaysScore won rest.now s) }
+{
     let (length, rest) = split(rest, b' ');
     let rest = rest?.strip_prefix(b"point match ")?;
     let (winner, loser) = split(split(rest, b' ').0, b'-');
@@ -109,7 +115,10 @@ fn score_in(won: bool, rest: &[u8]) -> Option<Score> {
 
 /// What a text says of the end of a match of the user with this opponent: `You win the 3 point match 3-1 .`, or
 /// `bob wins the 3 point match 3-1 .`. None if it is of others.
-pub fn read_ending(text: &[u8], opponent: &[u8]) -> Option<Ending> {
+pub fn read_ending(text: &[u8], opponent: &[u8]) -> Option<Ending>
+    ensures { MatchOption result ((won : Bool) (rest : List ℕ) → ¬ SaysWinner text.now opponent.now won rest)
+        (λ ending. SaysEnding text.now opponent.now ending) }
+{
     let (won, rest) = after_winner(text, opponent)?;
     Some(Ending {
         score: score_in(won, rest),
