@@ -1,4 +1,6 @@
+mod AnswerLemmas
 mod AskingLemmas
 mod FindingLemmas
 mod ListedLemmas
+mod ShapeLemmas
 mod TurningLemmas

@@ -1,7 +1,7 @@
 //! What a text of the server says of the match: a table of shapes.
 
-ghost use Rattle.std.specs.Prelude.{◌≡◌, IfSome};
-ghost use Rattle.fibs_events.specs.Told.{IsNameOrNone, IsTold, is_of_opponent};
+ghost use Rattle.std.specs.Prelude.{◌≡◌, ℕ, List, IfSome, MatchOption};
+ghost use Rattle.fibs_events.specs.Told.{HasFirst, HasNone, HasShape, IsNameOrNone, IsTold, is_of_opponent};
 
 use bstr::ByteSlice;
 use fibs_fields::name::Name;
@@ -565,7 +565,10 @@ impl Told {
 }
 
 /// What follows the beginning of a shape in a text that has this shape.
-fn after_beginning<'a>(text: &'a [u8], shape: &Shape) -> Option<&'a [u8]> {
+fn after_beginning<'a>(text: &'a [u8], shape: &Shape) -> Option<&'a [u8]>
+    ensures { MatchOption result ((rest : List ℕ) → ¬ HasShape text.now shape.now rest)
+        (λ rest. HasShape text.now shape.now rest.now) }
+{
     let rest = text.strip_prefix(shape.0)?;
     if rest.contains_str(shape.1) && rest.ends_with(shape.2) {
         Some(rest)
@@ -599,7 +602,10 @@ impl<'a> Found<'a> {
 }
 
 /// What the first shape says that a text has.
-fn first_of<'a>(shapes: &[Shape], text: &'a [u8]) -> Option<Found<'a>> {
+fn first_of<'a>(shapes: &[Shape], text: &'a [u8]) -> Option<Found<'a>>
+    ensures { MatchOption result (HasNone text.now shapes.now)
+        (λ found. HasFirst text.now shapes.now found.told found.deed found.rest.now) }
+{
     for shape in shapes {
         if let Some(rest) = after_beginning(text, shape) {
             return Some(Found {
