@@ -1,6 +1,9 @@
 mod AnswerLemmas
 mod AskingLemmas
+mod DiceLemmas
 mod FindingLemmas
 mod ListedLemmas
+mod PlayTextLemmas
+mod SaidLemmas
 mod ShapeLemmas
 mod TurningLemmas

@@ -10,5 +10,6 @@ pub mod Reported
 pub mod Listed
 pub mod Said
 pub mod Told
+pub mod Texts
 pub mod Asking
 pub mod InOrder

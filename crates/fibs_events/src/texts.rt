@@ -1,7 +1,9 @@
 //! What texts say has happened.
 
-ghost use Rattle.std.specs.Prelude.{◌≡◌, ◌≢◌, IfSome, IfNone, Some, None, option_map, true};
+ghost use Rattle.std.specs.Prelude.{◌≡◌, ◌≢◌, [], IfSome, IfNone, Some, None, List, option_map, true};
+ghost use Rattle.fibs_rules.specs.Hop.{Hop};
 ghost use Rattle.fibs_rules.specs.PlayValue.{hops_of};
+ghost use Rattle.fibs_position.specs.GameOf.{game_of};
 ghost use Rattle.fibs_events.specs.Happenings.{LegalFrom, nothing};
 ghost use Rattle.fibs_events.specs.Ends.{other_side};
 ghost use Rattle.fibs_events.specs.Known.{known_of, side_in};
@@ -10,6 +12,8 @@ ghost use Rattle.fibs_events.specs.declared.happened.Won.{Won};
 ghost use Rattle.fibs_events.specs.declared.happened.WonMatch.{WonMatch};
 ghost use Rattle.fibs_events.specs.Remembered.{IsRemembered, IsRollTold, played_in, says_nothing, with_board, with_game};
 ghost use Rattle.fibs_events.specs.Said.{IsOfText};
+ghost use Rattle.fibs_events.specs.Texts.{SaysPlayOf, way_of};
+ghost use Rattle.fibs_events.specs.declared.told.Deed.TheVariants as D;
 
 use crate::details::{dice_in, first_number, opening_in, play_in, score_in};
 use crate::event::Side;
@@ -28,7 +32,9 @@ const NO_DICE: [u8; 2] = [0, 0];
 const SENT: &[u8] = b">> ";
 
 /// Which way a side goes by the numbers of a board line.
-fn direction_of(who: Side, game: &GameBoard) -> Direction {
+fn direction_of(who: Side, game: &GameBoard) -> Direction
+    ensures { result ≡ way_of who (game_of game.now) }
+{
     match (who, game.direction()) {
         (Side::Own, direction) => direction,
         (Side::Other, Direction::Down) => Direction::Up,
@@ -132,7 +138,15 @@ impl Events {
     }
 
     /// The play that a text says, of a side.
-    fn told_play(&self, report: &Report<'_>) -> Option<(Side, Play)> {
+    fn told_play(&self, report: &Report<'_>) -> Option<(Side, Play)>
+        ensures side { IfSome result (λ told. side_in report.now.name.now self.now ≡ Some told.0) }
+        ensures stays { report.now.deed ≡ D.CannotMove → IfSome result (λ told. hops_of told.1 ≡ []) }
+        ensures moves { report.now.deed ≢ D.CannotMove → IfSome result (λ told.
+            SaysPlayOf (known_of self.now) told.0 report.now.rest.now (hops_of told.1)) }
+        ensures none { IfNone result ((who : Side) → side_in report.now.name.now self.now ≡ Some who
+            → (report.now.deed ≢ D.CannotMove)
+            × ((steps : List Hop) → ¬ SaysPlayOf (known_of self.now) who report.now.rest.now steps)) }
+    {
         let who = self.side_of(report.name)?;
         if report.deed == Deed::CannotMove {
             return Some((who, Play::new()));
