@@ -4,13 +4,14 @@ ghost use Rattle.std.specs.Str.{str_eq_ignore_ascii_case};
 ghost use Rattle.fibs_position.specs.DecisionValue.{decision_of};
 ghost use Rattle.fibs_position.specs.GameOf.{game_of};
 ghost use Rattle.fibs_session.specs.History.Allows.{refusal_of};
-ghost use Rattle.fibs_session.specs.History.Machine.{Talk};
+ghost use Rattle.fibs_session.specs.History.Machine.{Talk, answer_now, shown_now};
 ghost use Rattle.fibs_session.specs.Calls.Standing.{StandsAfter};
 ghost use Rattle.fibs_session.specs.Typing.{decided, typed_by};
 ghost use Rattle.fibs_advice.specs.Doubling.{NamesNoDouble};
 ghost use Rattle.fibs_advice.specs.Moved.{spelled_in};
 ghost use Rattle.fibs_terminal.specs.Asking.{SendsUntaken};
 ghost use Rattle.fibs_terminal.specs.Leaving.{NeverQuits};
+ghost use Rattle.fibs_terminal.specs.Reasons.{NotesNoDouble, is_no_double};
 ghost use Rattle.fibs_terminal.specs.Sending.{Decides, SaysWithout, says_send};
 
 use crate::commands::set_line;
@@ -140,18 +141,34 @@ fn append_no_double(game: &GameBoard, rule: &mut Vec<u8>) -> Result<(), AllocErr
     }
 }
 
+/// Whether a decision is a double that the client refuses for what the board shows.
+fn is_no_double(client: &Client, decision: &Decision) -> bool
+    ensures { (t : Talk) → StandsAfter client.now t → result ≡
+        is_no_double (decision_of decision.now) (answer_now t (decision_of decision.now)) }
+{
+    matches!(decision, Decision::Double)
+        && matches!(
+            client.refusal(decision),
+            Some(Refusal::NotYours | Refusal::WrongKind)
+        )
+}
+
 /// Keeps why a decision can't be made on the board, if it is a double that the client refuses for it.
 fn note_no_double(
     client: &Client,
     decision: &Decision,
     rule: &mut Vec<u8>,
-) -> Result<(), AllocError> {
-    if *decision != Decision::Double {
+) -> Result<(), AllocError>
+    ensures { OnOk result ((t : Talk) → StandsAfter client.now t → NotesNoDouble
+        (is_no_double (decision_of decision.now) (answer_now t (decision_of decision.now))) (shown_now t)
+        rule.old.items rule.new.items) }
+{
+    if !is_no_double(client, decision) {
         return Ok(());
     }
-    match (client.refusal(decision), client.game()) {
-        (Some(Refusal::NotYours | Refusal::WrongKind), Some(game)) => append_no_double(game, rule),
-        _ => Ok(()),
+    match client.game() {
+        None => Ok(()),
+        Some(game) => append_no_double(game, rule),
     }
 }
 
