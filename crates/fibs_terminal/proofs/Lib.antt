@@ -15,6 +15,7 @@ pub mod RecordingLemmas
 pub mod RespellingLemmas
 pub mod SendingLemmas
 pub mod KeptListLemmas
+pub mod OwnWordLemmas
 pub mod LeavingLemmas
 pub mod BeginningLemmas
 pub mod TalkingLemmas

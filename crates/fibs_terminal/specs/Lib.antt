@@ -22,6 +22,7 @@ pub mod HeardTexts
 pub mod HitsTold
 pub mod Noted
 pub mod Outcomes
+pub mod OwnWords
 pub mod KeptLists
 pub mod Reasons
 pub mod Recording

@@ -1,5 +1,5 @@
 //! What a line that is typed at a terminal asks for.
-ghost use Rattle.std.specs.Prelude.{◌≡◌, ◌≤◌, length, codes, true, false, is_some, Some, None, IfOk, IfSome, OnOk};
+ghost use Rattle.std.specs.Prelude.{◌≡◌, ◌≤◌, ◌↔◌, length, codes, true, false, is_some, Some, None, IfOk, IfSome, IsTrue, OnOk};
 ghost use Rattle.fibs_connect.specs.Wishes.{wish_value};
 ghost use Rattle.fibs_session.specs.Calls.Standing.{StandsAfter};
 ghost use Rattle.fibs_session.specs.History.Machine.{Talk};
@@ -8,9 +8,12 @@ ghost use Rattle.fibs_position.specs.DecisionValue.{decision_of, move};
 ghost use Rattle.fibs_rules.specs.PlayValue.{hops_of};
 ghost use Rattle.fibs_terminal.specs.Asking.{AsksInBounds, IsTakenAs, IsTakenOrGoes, KnownGoesOn, SendsUntaken, ShownGoesOn, TakesPlay};
 ghost use Rattle.fibs_terminal.specs.Leaving.{NeverQuits, Quits, QuitsBy};
+ghost use Rattle.fibs_terminal.specs.OwnWords.{IsOwn, name_of, own_name};
 ghost use Rattle.fibs_terminal.specs.Respelling.{IsPassedAs, Respells};
 ghost use Rattle.fibs_terminal.specs.Sending.{SendsNoDecision, SendsOnWord, WentOnWord, says_send};
 ghost use Rattle.fibs_fields.specs.Split.{before};
+ghost use Rattle.fibs_terminal.specs.declared.commands.Here.{Here as TheHere};
+ghost use Rattle.fibs_terminal.specs.declared.commands.Own.{Own as TheOwn};
 ghost use Rattle.fibs_terminal.specs.Configured.{numbers_after};
 ghost use Rattle.fibs_terminal.specs.Trying.{AnswersTry, GoesOn, KeepsUnanswered, ShowsTry, Tries, TriesOrKeeps};
 ghost use Rattle.fibs_terminal.specs.TypedMoves.{AfterTry, IsTriedAs, KeepsTyped, NotesRule, TriesTyped, after_word};
@@ -126,7 +129,10 @@ const HERE: [(&[u8], Here); 19] = [
 ];
 
 /// What one of these words asks for.
-fn here_word(word: &[u8]) -> Option<Here> {
+fn here_word(word: &[u8]) -> Option<Here>
+    ensures found { IfSome result (λ here. word.now ≡ name_of here) }
+    ensures all { (here : TheHere) → word.now ≡ name_of here → result ≡ Some here }
+{
     for (name, here) in &HERE {
         if *name == word {
             return Some(*here);
@@ -139,15 +145,21 @@ fn here_word(word: &[u8]) -> Option<Here> {
 fn own_word(word: &[u8]) -> Option<Own>
     ensures go { word.now ≡ codes "go" → result ≡ Some Own.Go }
     ensures tries { word.now ≡ codes "try" → result ≡ Some Own.Try }
+    ensures found { IfSome result (λ own. word.now ≡ own_name own) }
+    ensures all { (own : TheOwn) → word.now ≡ own_name own → result ≡ Some own }
 {
-    match word {
-        b"re" => Some(Own::Re),
-        b"try" => Some(Own::Try),
-        b"go" => Some(Own::Go),
-        _ => match here_word(word) {
-            Some(here) => Some(Own::Here(here)),
-            None => None,
-        },
+    if word == b"re".as_slice() {
+        return Some(Own::Re);
+    }
+    if word == b"try".as_slice() {
+        return Some(Own::Try);
+    }
+    if word == b"go".as_slice() {
+        return Some(Own::Go);
+    }
+    match here_word(word) {
+        Some(here) => Some(Own::Here(here)),
+        None => None,
     }
 }
 
@@ -156,6 +168,7 @@ fn is_own(line: &[u8]) -> bool
     ensures quit { line.now ≡ codes "quit" → result ≡ true }
     ensures go { line.now ≡ codes "go" → result ≡ true }
     ensures tries { before 32 line.now ≡ codes "try" → result ≡ true }
+    ensures own { IsTrue result ↔ IsOwn line.now }
 {
     line == b"quit".as_slice()
         || line == b"open".as_slice()
