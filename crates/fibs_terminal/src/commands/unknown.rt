@@ -1,9 +1,9 @@
 //! What is said of a line that is no command: nothing is sent by a guess.
 ghost use Rattle.std.specs.Prelude.{◌≡◌, ◌++◌, None, OnOk, true};
 ghost use Rattle.fibs_advice.specs.Spelled.{small};
-ghost use Rattle.fibs_fields.specs.Split.{before};
+ghost use Rattle.fibs_fields.specs.Split.{before, seen};
 ghost use Rattle.fibs_wording.specs.ServerWords.{is_leaving_word};
-ghost use Rattle.fibs_terminal.specs.Unknown.{foreign_words, leaving_words};
+ghost use Rattle.fibs_terminal.specs.Unknown.{SaysForeign, SaysMeant, ShowsIfAny, ShowsRest, foreign_words, leaving_words};
 
 use crate::telling::UNKNOWN;
 use fibs_fields::split::split;
@@ -22,19 +22,31 @@ const MOST_SHOWN: usize = 19;
 
 /// Says how a command of the server is sent that the client does not have. If much follows its word, that is left out.
 fn say_foreign(word: &[u8], rest: Option<&[u8]>, page: &mut Page<'_>) -> Result<(), AllocError>
-    ensures { rest.entry ≡ None → OnOk result (page.new.text.items ≡ page.old.text.items ++ foreign_words word.now) }
+    ensures alone { rest.entry ≡ None → OnOk result (page.new.text.items
+        ≡ page.old.text.items ++ foreign_words word.now) }
+    ensures more { OnOk result (SaysForeign word.now (seen rest.entry) page.old.text.items page.new.text.items) }
 {
     page.text
         .extend_from_slice(b"not a word of this client: send ")?;
     page.text.extend_from_slice(word)?;
-    if let Some(rest) = rest {
-        append_rest(rest, page)?;
-    }
+    append_if_any(rest, page)?;
     page.say(b" sends it as it is\n")
 }
 
+/// Says what follows a word, if anything does.
+fn append_if_any(rest: Option<&[u8]>, page: &mut Page<'_>) -> Result<(), AllocError>
+    ensures { OnOk result (ShowsIfAny (seen rest.entry) page.old.text.items page.new.text.items) }
+{
+    match rest {
+        None => Ok(()),
+        Some(rest) => append_rest(rest, page),
+    }
+}
+
 /// Says what follows a word, after a space. If it is much, it is left out.
-fn append_rest(rest: &[u8], page: &mut Page<'_>) -> Result<(), AllocError> {
+fn append_rest(rest: &[u8], page: &mut Page<'_>) -> Result<(), AllocError>
+    ensures { OnOk result (ShowsRest rest.now page.old.text.items page.new.text.items) }
+{
     page.text.extend_from_slice(b" ")?;
     if rest.len() > MOST_SHOWN {
         return page.text.extend_from_slice(b"..");
@@ -43,12 +55,16 @@ fn append_rest(rest: &[u8], page: &mut Page<'_>) -> Result<(), AllocError> {
 }
 
 /// Says which word may have been meant, if one is near.
-fn say_meant(word: &[u8], page: &mut Page<'_>) -> Result<(), AllocError> {
+fn say_meant(word: &[u8], page: &mut Page<'_>) -> Result<(), AllocError>
+    ensures { OnOk result (SaysMeant word.now page.old.text.items page.new.text.items) }
+{
     match meant_word(word) {
         None => page.say(UNKNOWN),
         Some(meant) => {
             append_shown(word, page.settings.utf8, &mut page.text)?;
-            page.say_all(&[b": ", meant, b"?\n"])
+            page.say(b": ")?;
+            page.say(meant)?;
+            page.say(b"?\n")
         }
     }
 }
