@@ -1,6 +1,6 @@
 -- How the user takes leave of a match: the first line that does is only answered, the second one in a row does it (the
 -- project's own).
-use Rattle.std.specs.Prelude.{◌≡◌, ◌≢◌, ◌⊎◌, ◌&&◌, Bool, true, false, not, cond, ℕ, List, codes, Option, Some, None, Result, IfOk}
+use Rattle.std.specs.Prelude.{◌≡◌, ◌≢◌, ◌⊎◌, ◌++◌, ◌&&◌, Bool, true, false, not, cond, ℕ, List, [], codes, take, Option, Some, None, Result, IfOk}
 use Rattle.std.specs.Str.{bytes_eq}
 use Rattle.fibs_position.specs.GameOf.{game_of}
 use Rattle.fibs_position.specs.declared.game_board.GameBoard.{GameBoard}
@@ -33,6 +33,33 @@ is_match_on m = is_in_match m.here.situation.standing
 abbrev pub leave_word : Leave → List ℕ
 leave_word L.Quit = codes "quit"
 leave_word L.Bye = codes "bye"
+
+-- with whom the match is, of which the user is asked, if the name is known: 24 bytes of it at most
+abbrev pub with_words : List ℕ → List ℕ
+with_words [] = []
+with_words opponent = codes " with " ++ take 24 opponent
+
+-- how it is resumed with an opponent
+abbrev pub invite_words : List ℕ → List ℕ
+invite_words opponent = codes ": invite " ++ (opponent ++ codes " then resumes it")
+
+-- if the name is known
+abbrev pub resumed_words : List ℕ → List ℕ
+resumed_words [] = []
+resumed_words opponent = invite_words opponent
+
+-- the same word again leaves
+abbrev pub again_words : Leave → List ℕ
+again_words leave = codes ": " ++ (leave_word leave ++ codes " again leaves.\n")
+
+-- no server is bound to save the match
+abbrev pub saved_words : List ℕ → List ℕ
+saved_words opponent = codes "Most servers save it" ++ (resumed_words opponent ++ codes ".\n")
+
+-- what the user is asked
+abbrev pub leave_words : Leave → List ℕ → List ℕ
+leave_words leave opponent = codes "You are in a match" ++ (with_words opponent
+    ++ (again_words leave ++ saved_words opponent))
 
 -- by which word a line takes leave: the program ends, or the client is asked to answer `bye`
 abbrev pub leave_of : Wish → List ℕ → Option Leave

@@ -1,16 +1,18 @@
 //! How the user takes leave of a match: the first line that does is only answered, the second one in a row does it.
-ghost use Rattle.std.specs.Prelude.{◌≡◌, IfOk, OnOk};
+ghost use Rattle.std.specs.Prelude.{◌≡◌, ◌++◌, IfOk, OnOk};
 ghost use Rattle.fibs_fields.specs.StoredBoard.{fields_of};
+ghost use Rattle.fibs_picture.specs.InWords.Rows.{Says};
 ghost use Rattle.fibs_advice.specs.Situations.{is_match_over, is_won};
 ghost use Rattle.fibs_connect.specs.Wishes.{wish_value};
 ghost use Rattle.fibs_terminal.specs.Asking.{AsksInBounds, SendsUntaken, ShownGoesOn};
-ghost use Rattle.fibs_terminal.specs.Leaving.{KnownGoesOnOrAsks, QuitsOrAsks, TakesLeave, asked_first, is_again, is_match_on, leave_of, leave_word};
+ghost use Rattle.fibs_terminal.specs.GoingOn.{own_columns};
+ghost use Rattle.fibs_terminal.specs.Leaving.{KnownGoesOnOrAsks, QuitsOrAsks, TakesLeave, asked_first, is_again, is_match_on, leave_of, leave_word, leave_words, again_words, invite_words, resumed_words, saved_words, with_words};
 ghost use Rattle.fibs_terminal.specs.Sending.{SendsOnWord};
 ghost use Rattle.fibs_terminal.specs.Trying.{GoesOn, KeepsUnanswered, ShowsTry, TriesOrKeeps};
 ghost use Rattle.fibs_terminal.specs.TypedMoves.{KeepsTyped};
 
 use crate::account::is_free;
-use crate::going_on::fit_from;
+use crate::going_on::say_rows;
 use crate::memory::Memory;
 use crate::screen::Screen;
 use fibs_connect::typed_line::TypedLine;
@@ -99,20 +101,74 @@ pub(crate) fn is_match_over(board: &Board) -> bool
     )
 }
 
+/// Appends with whom a match is, if his name is known.
+fn append_with(opponent: &[u8], row: &mut Vec<u8>) -> Result<(), AllocError>
+    ensures { OnOk result (row.new.items ≡ row.old.items ++ with_words opponent.now) }
+{
+    if opponent.is_empty() {
+        return Ok(());
+    }
+    row.extend_from_slice(b" with ")?;
+    row.extend_from_slice(short_name(opponent))
+}
+
+/// Appends how it is resumed with him.
+fn append_invite(opponent: &[u8], row: &mut Vec<u8>) -> Result<(), AllocError>
+    ensures { OnOk result (row.new.items ≡ row.old.items ++ invite_words opponent.now) }
+{
+    row.extend_from_slice(b": invite ")?;
+    row.extend_from_slice(opponent)?;
+    row.extend_from_slice(b" then resumes it")
+}
+
+/// Appends how it is resumed, if his name is known.
+fn append_resumed(opponent: &[u8], row: &mut Vec<u8>) -> Result<(), AllocError>
+    ensures { OnOk result (row.new.items ≡ row.old.items ++ resumed_words opponent.now) }
+{
+    if opponent.is_empty() {
+        return Ok(());
+    }
+    append_invite(opponent, row)
+}
+
+/// Appends by which word the user leaves.
+fn append_again(leave: Leave, row: &mut Vec<u8>) -> Result<(), AllocError>
+    ensures { OnOk result (row.new.items ≡ row.old.items ++ again_words leave) }
+{
+    row.extend_from_slice(b": ")?;
+    row.extend_from_slice(leave.word())?;
+    row.extend_from_slice(b" again leaves.\n")
+}
+
+/// Appends that most servers save the match, and how it is resumed.
+fn append_saved(opponent: &[u8], row: &mut Vec<u8>) -> Result<(), AllocError>
+    ensures { OnOk result (row.new.items ≡ row.old.items ++ saved_words opponent.now) }
+{
+    row.extend_from_slice(b"Most servers save it")?;
+    append_resumed(opponent, row)?;
+    row.extend_from_slice(b".\n")
+}
+
+/// Appends what the user is asked.
+fn append_leave(leave: Leave, opponent: &[u8], row: &mut Vec<u8>) -> Result<(), AllocError>
+    ensures { OnOk result (row.new.items ≡ row.old.items ++ leave_words leave opponent.now) }
+{
+    row.extend_from_slice(b"You are in a match")?;
+    append_with(opponent, row)?;
+    append_again(leave, row)?;
+    append_saved(opponent, row)
+}
+
 /// Asks whether the user leaves his match with an opponent, whose name may not be known, and says how it is resumed:
 /// no server is bound to save it.
-fn say_leave(leave: Leave, opponent: &[u8], page: &mut Page<'_>) -> Result<(), AllocError> {
-    let start = page.text.len();
-    page.say(b"You are in a match")?;
-    if !opponent.is_empty() {
-        page.say_all(&[b" with ", short_name(opponent)])?;
-    }
-    page.say_all(&[b": ", leave.word(), b" again leaves.\nMost servers save it"])?;
-    if !opponent.is_empty() {
-        page.say_all(&[b": invite ", opponent, b" then resumes it"])?;
-    }
-    page.say(b".\n")?;
-    fit_from(start, page)
+fn say_leave(leave: Leave, opponent: &[u8], page: &mut Page<'_>) -> Result<(), AllocError>
+    ensures { OnOk result (Says (own_columns page.old.settings) (leave_words leave opponent.now)
+        page.old.text.items page.new.text.items) }
+{
+    let alloc = page.alloc;
+    let mut row = Vec::new(alloc);
+    append_leave(leave, opponent, &mut row)?;
+    say_rows(row.as_slice(), page)
 }
 
 impl Memory {
