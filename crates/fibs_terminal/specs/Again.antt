@@ -1,9 +1,11 @@
 -- When a connection that has ended is opened again (the project's own).
-use Rattle.std.specs.Prelude.{◌≡◌, ◌++◌, ◌&&◌, ◌||◌, ◌+◌, ◌*◌, ◌^◌, ◌∷◌, ℕ, zero, suc, List, [], codes, Bool, None, IfSome, true, false, cond, is_some, not, min, max}
+use Rattle.std.specs.Prelude.{◌≡◌, ◌++◌, ◌&&◌, ◌||◌, ◌+◌, ◌*◌, ◌^◌, ◌∷◌, ℕ, zero, suc, List, [], codes, Bool, Option, Some, None, IfSome, true, false, cond, decimal, is_some, not, min, max}
 use Rattle.std.specs.Duration.{as_nanos, max_nanos}
 use Rattle.std.specs.Str.{bytes_eq}
 use Rattle.std.specs.declared.time.Duration.{Duration}
 use Rattle.fibs_fields.specs.Split.{before}
+use Rattle.fibs_game.specs.declared.refusal.Refusal.{Refusal}
+use Rattle.fibs_game.specs.declared.refusal.Refusal.TheVariants.{Offline}
 use Rattle.fibs_wording.specs.ServerWords.{is_leaving_word}
 use Rattle.fibs_terminal.specs.declared.reconnecting.Reconnecting.{Reconnecting}
 
@@ -48,6 +50,24 @@ after_asked is_offline r = record r {
 -- the user asks for it no longer: no try comes
 abbrev pub after_stay : Reconnecting → Reconnecting
 after_stay r = record r { is_on = false; tries = false; wait = 0; due = None }
+
+-- there is no connection: so the client refuses to roll
+abbrev pub lacks_connection : Option Refusal → Bool
+lacks_connection (Some Offline) = true
+lacks_connection why = false
+
+-- when the next try comes, and what ends that
+abbrev pub try_words : List ℕ → ℕ → List ℕ
+try_words before seconds = before ++ (decimal seconds ++ codes " s; stay leaves it closed, quit ends\n")
+
+-- what is said to who asks for it: while there is no connection, when a try comes
+abbrev pub reconnect_words : Bool → List ℕ
+reconnect_words true = try_words (codes "connecting in ") (next_wait 0)
+reconnect_words false = codes "reconnect: a lost connection is opened again by itself; stay ends that.\n"
+
+-- and to who asks for it no longer
+abbrev pub stay_words : List ℕ
+stay_words = codes "stay: a connection that is lost stays closed until you type open.\n"
 
 -- the first word of a line takes leave of the server: its own words, and those by which people leave
 abbrev pub takes_leave : List ℕ → Bool

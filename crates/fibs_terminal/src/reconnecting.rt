@@ -1,8 +1,11 @@
 //! A connection that has ended is opened again, if the user asks for it: when the next try comes. The program then
 //! types `open` for him, and nothing else.
-ghost use Rattle.std.specs.Prelude.{◌≡◌, ◌||◌, ◌-◌, None, OnOk, Some, cond, false, true};
+ghost use Rattle.std.specs.Prelude.{◌≡◌, ◌++◌, ◌||◌, ◌-◌, None, OnOk, Some, cond, false, true};
 ghost use Rattle.std.specs.Duration.{as_nanos};
-ghost use Rattle.fibs_terminal.specs.Again.{IsDue, SaysEnd, after_asked, after_failed, after_lost, after_opened, after_stay, end_words, goes_on, next_wait, takes_leave};
+ghost use Rattle.fibs_position.specs.DecisionValue.{roll};
+ghost use Rattle.fibs_session.specs.Calls.Standing.{StandsAfter};
+ghost use Rattle.fibs_session.specs.History.Machine.{Talk, answer_now};
+ghost use Rattle.fibs_terminal.specs.Again.{IsDue, SaysEnd, after_asked, after_failed, after_lost, after_opened, after_stay, end_words, goes_on, lacks_connection, next_wait, reconnect_words, stay_words, takes_leave, try_words};
 ghost use Rattle.fibs_terminal.specs.Noted.{Reconnects};
 
 use crate::screen::{Moment, Screen};
@@ -186,7 +189,9 @@ impl Reconnecting {
 }
 
 /// Says when a connection is opened again, between these words.
-fn say_seconds(seconds: u64, before: &[u8], page: &mut Page<'_>) -> Result<(), AllocError> {
+fn say_seconds(seconds: u64, before: &[u8], page: &mut Page<'_>) -> Result<(), AllocError>
+    ensures { OnOk result (page.new.text.items ≡ page.old.text.items ++ try_words before.now seconds) }
+{
     page.say(before)?;
     append_number(seconds, &mut page.text)?;
     page.say(b" s; stay leaves it closed, quit ends\n")
@@ -206,7 +211,9 @@ fn end_words(has_left: bool, fixes: bool) -> &'static [u8]
 }
 
 /// Whether there is no connection.
-fn is_offline(client: &Client) -> bool {
+pub(crate) fn is_offline(client: &Client) -> bool
+    ensures { (t : Talk) → StandsAfter client.now t → result ≡ lacks_connection (answer_now t roll) }
+{
     client.refusal(&Decision::Roll) == Some(Refusal::Offline)
 }
 
@@ -252,7 +259,11 @@ impl<'a> Screen<'a> {
 
     /// From now on a connection that has ended is opened again.
     pub(crate) fn ask_reconnect(&mut self, client: &Client) -> Result<(), AllocError>
-        ensures { self.new.memory.here ≡ self.old.memory.here }
+        ensures here { self.new.memory.here ≡ self.old.memory.here }
+        ensures asks { (t : Talk) → StandsAfter client.now t → self.new.memory.program.reconnecting ≡
+            after_asked (lacks_connection (answer_now t roll)) self.old.memory.program.reconnecting }
+        ensures says { OnOk result ((t : Talk) → StandsAfter client.now t → self.new.page.text.items ≡
+            self.old.page.text.items ++ reconnect_words (lacks_connection (answer_now t roll))) }
     {
         let reconnecting = &mut self.memory.program.reconnecting;
         reconnecting.ask(is_offline(client));
@@ -264,7 +275,9 @@ impl<'a> Screen<'a> {
 
     /// It is not opened again any more.
     pub(crate) fn stay(&mut self) -> Result<(), AllocError>
-        ensures { self.new.memory.here ≡ self.old.memory.here }
+        ensures here { self.new.memory.here ≡ self.old.memory.here }
+        ensures stays { self.new.memory.program.reconnecting ≡ after_stay self.old.memory.program.reconnecting }
+        ensures says { OnOk result (self.new.page.text.items ≡ self.old.page.text.items ++ stay_words) }
     {
         self.memory.program.reconnecting.stay();
         self.page.say(ENDED)

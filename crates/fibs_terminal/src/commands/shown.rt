@@ -1,25 +1,32 @@
 //! The board that is shown, and facts of it, told in words if the user asks.
 ghost use Rattle.std.specs.Prelude.{IfSome, OnOk, false};
+ghost use Rattle.fibs_picture.specs.InWords.Rows.{Says};
+ghost use Rattle.fibs_position.specs.DecisionValue.{roll};
 ghost use Rattle.fibs_session.specs.Calls.Standing.{StandsAfter};
-ghost use Rattle.fibs_session.specs.History.Machine.{Talk, shown_now};
+ghost use Rattle.fibs_session.specs.History.Machine.{Talk, answer_now, shown_now};
+ghost use Rattle.fibs_terminal.specs.Again.{lacks_connection};
 ghost use Rattle.fibs_terminal.specs.AskedBoards.{SaysFact, SaysFactShown, TellsOwn, TellsShown};
+ghost use Rattle.fibs_terminal.specs.GoingOn.{own_columns};
+ghost use Rattle.fibs_terminal.specs.Reasons.{no_game_words};
 
 use crate::drawing::{Boards, Watching};
 use crate::going_on::say_rows;
+use crate::reconnecting::is_offline;
 use fibs_picture::in_words::{Fact, Told, append_row};
-use fibs_position::Decision;
 use fibs_session::{Client, Refusal};
 use fibs_wording::environment::Page;
 use fibs_wording::reasons::refusal_words;
 use std::alloc::AllocError;
 
 /// Says that there is no board of the user's own game for which a word asks.
-pub(crate) fn say_no_game(client: &Client, page: &mut Page<'_>) -> Result<(), AllocError> {
-    let why = match client.refusal(&Decision::Roll) {
-        Some(Refusal::Offline) => Refusal::Offline,
-        _ => Refusal::NoBoard,
-    };
-    say_rows(refusal_words(why), page)
+pub(crate) fn say_no_game(client: &Client, page: &mut Page<'_>) -> Result<(), AllocError>
+    ensures { OnOk result ((t : Talk) → StandsAfter client.now t → Says (own_columns page.old.settings)
+        (no_game_words (lacks_connection (answer_now t roll))) page.old.text.items page.new.text.items) }
+{
+    if is_offline(client) {
+        return say_rows(refusal_words(Refusal::Offline), page);
+    }
+    say_rows(refusal_words(Refusal::NoBoard), page)
 }
 
 /// Tells in words the board of the user's own game.
