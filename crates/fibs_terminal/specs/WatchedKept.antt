@@ -1,12 +1,14 @@
 -- What a terminal remembers of a game that the user watches (the project's own).
-use Rattle.std.specs.Prelude.{◌≡◌, ◌≤◌, ◌||◌, ℕ, Bool, true, false, List, codes, nat_eq, Option, Some, None, if◌then◌else◌}
+use Rattle.std.specs.Prelude.{◌≡◌, ◌≤◌, ◌||◌, ◌++◌, ℕ, Bool, true, false, List, codes, nat_eq, take, Option, Some, None, if◌then◌else◌}
 use Rattle.std.specs.List.{starts_with}
 use Rattle.std.specs.Str.{bytes_eq}
 use Rattle.fibs_fields.specs.Board.{BoardFields, field_of}
 use Rattle.fibs_position.specs.WatchedOf.{watched_of}
 use Rattle.fibs_position.specs.declared.watched_board.WatchedBoard.{WatchedBoard}
+use Rattle.fibs_picture.specs.InWords.Rows.{Says}
 use Rattle.fibs_picture.specs.declared.in_words.told.Told.TheVariants as T
 use Rattle.fibs_wording.specs.declared.environment.settings.Settings.{Settings}
+use Rattle.fibs_terminal.specs.GoingOn.{own_columns}
 use Rattle.fibs_terminal.specs.declared.drawing.watching.Watching.{Watching}
 use Rattle.fibs_terminal.specs.declared.drawing.watching.Wanted.{Wanted}
 use Rattle.fibs_terminal.specs.declared.drawing.watching.Wanted.TheVariants as W
@@ -63,3 +65,16 @@ drawn_watching s watched w = record w {
 -- nothing changes of what was drawn
 abbrev pub StaysDrawn : Watching → Watching → Type 0
 StaysDrawn old new = (new.drawn ≡ old.drawn) × (new.told ≡ old.told)
+
+-- the players of a board: 22 bytes of a name at most
+abbrev pub pair_words : BoardFields → List ℕ
+pair_words b = take 22 b.player ++ (codes " and " ++ take 22 b.opponent)
+
+-- whom the user watches, by a board, and what ends it
+abbrev pub watch_words : BoardFields → List ℕ
+watch_words b = codes "You watch " ++ (pair_words b ++ codes ": unwatch ends it.\n")
+
+-- it is said as long as he watches, and has not sent `unwatch`
+abbrev pub SaysWatched : Settings → Option WatchedBoard → Bool → List ℕ → List ℕ → Type 0
+SaysWatched s (Some watched) false before after = Says (own_columns s) (watch_words (watched_of watched)) before after
+SaysWatched s heard is_ending before after = after ≡ before

@@ -1,19 +1,21 @@
 //! What a terminal shows of a game that the user watches.
-ghost use Rattle.std.specs.Prelude.{◌≡◌, ◌⊎◌, ◌↔◌, ◌++◌, IsTrue, List, ℕ, None, OnOk, Some, false, true};
+ghost use Rattle.std.specs.Prelude.{◌≡◌, ◌⊎◌, ◌↔◌, ◌++◌, IsTrue, List, ℕ, None, OnOk, Some, false, take, true};
 ghost use Rattle.std.specs.Option.{option_copied};
 ghost use Rattle.fibs_fields.specs.StoredBoard.{fields_of};
 ghost use Rattle.fibs_position.specs.WatchedOf.{watched_of};
+ghost use Rattle.fibs_picture.specs.InWords.Rows.{Says};
 ghost use Rattle.fibs_picture.specs.declared.in_words.told.Told.TheVariants as T;
 ghost use Rattle.fibs_terminal.specs.Boxes.{begun_watching, nothing_watched};
 ghost use Rattle.fibs_terminal.specs.Drawings.{Draws, told_before};
+ghost use Rattle.fibs_terminal.specs.GoingOn.{own_columns};
 ghost use Rattle.fibs_terminal.specs.WatchedDrawings.{TellsWatched};
-ghost use Rattle.fibs_terminal.specs.WatchedKept.{IsDrawnWatched, IsSamePair, StaysDrawn, after_asking, drawn_watching, is_wanted, is_watched, passed_watching};
+ghost use Rattle.fibs_terminal.specs.WatchedKept.{IsDrawnWatched, IsSamePair, SaysWatched, StaysDrawn, after_asking, drawn_watching, is_wanted, is_watched, pair_words, passed_watching, watch_words};
 
 use crate::drawing::above::{Above, end_text};
 use crate::drawing::boards::{append_dice, is_moved};
 use crate::drawing::telling::told_before;
 use crate::drawing::watched::append_watched;
-use crate::going_on::{fit_from, say_rows};
+use crate::going_on::say_rows;
 use fibs_fields::boards::Board;
 use fibs_fields::boards::fields::{
     COLOUR, FIRST_DIE, OTHER_FIRST_DIE, OTHER_SECOND_DIE, SECOND_DIE, TURN, WAS_DOUBLED,
@@ -57,7 +59,9 @@ enum Wanted {
 }
 
 /// What is said of a name beside another one.
-fn narrow_name(name: &[u8]) -> &[u8] {
+fn narrow_name(name: &[u8]) -> &[u8]
+    ensures { result.now ≡ take 22 name.now }
+{
     &name[..name.len().min(NAME_ROOM)]
 }
 
@@ -267,21 +271,45 @@ impl Watching {
         }
     }
 
-    /// Says whom the user watches, and what ends it; nothing if he watches nobody.
-    pub fn say_hint(&self, page: &mut Page<'_>) -> Result<(), AllocError> {
-        let start = page.text.len();
+    /// Says whom the user watches, and what ends it; nothing if he watches nobody, or has ended it.
+    pub fn say_hint(&self, page: &mut Page<'_>) -> Result<(), AllocError>
+        ensures { OnOk result (SaysWatched page.old.settings self.now.heard self.now.is_ending
+            page.old.text.items page.new.text.items) }
+    {
         match &self.heard {
-            Some(heard) if !self.is_ending => page.say_all(&[
-                b"You watch ",
-                narrow_name(heard.board().player().bytes()),
-                b" and ",
-                narrow_name(heard.board().opponent().bytes()),
-                b": unwatch ends it.\n",
-            ])?,
-            _ => return Ok(()),
+            Some(heard) if !self.is_ending => say_watched(heard.board(), page),
+            _ => Ok(()),
         }
-        fit_from(start, page)
     }
+}
+
+/// Appends the players of a board.
+fn append_pair(board: &Board, row: &mut Vec<u8>) -> Result<(), AllocError>
+    ensures { OnOk result (row.new.items ≡ row.old.items ++ pair_words (fields_of board.now)) }
+{
+    row.extend_from_slice(narrow_name(board.player().bytes()))?;
+    row.extend_from_slice(b" and ")?;
+    row.extend_from_slice(narrow_name(board.opponent().bytes()))
+}
+
+/// Appends whom the user watches by a board, and what ends it.
+fn append_watch(board: &Board, row: &mut Vec<u8>) -> Result<(), AllocError>
+    ensures { OnOk result (row.new.items ≡ row.old.items ++ watch_words (fields_of board.now)) }
+{
+    row.extend_from_slice(b"You watch ")?;
+    append_pair(board, row)?;
+    row.extend_from_slice(b": unwatch ends it.\n")
+}
+
+/// Says it.
+fn say_watched(board: &Board, page: &mut Page<'_>) -> Result<(), AllocError>
+    ensures { OnOk result (Says (own_columns page.old.settings) (watch_words (fields_of board.now))
+        page.old.text.items page.new.text.items) }
+{
+    let alloc = page.alloc;
+    let mut row = Vec::new(alloc);
+    append_watch(board, &mut row)?;
+    say_rows(row.as_slice(), page)
 }
 
 /// Says in a row what a board is that is not drawn, if the server's last text does not say it.
