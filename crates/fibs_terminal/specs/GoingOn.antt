@@ -1,7 +1,16 @@
--- How wide the rows of a terminal's own words are (the project's own).
-use Rattle.std.specs.Prelude.{ℕ, ◌-◌}
+-- How wide the rows of a terminal's own words are, and what is said of the place of its boards (the project's own).
+use Rattle.std.specs.Prelude.{ℕ, ◌-◌, ◌==◌, List, codes, not, if◌then◌else◌}
 use Rattle.fibs_wording.specs.declared.environment.settings.Settings.{Settings}
 
 -- the columns that they have: the last one of the terminal stays free
 abbrev pub own_columns : Settings → ℕ
 own_columns s = s.columns - 1
+
+-- why the newest board does not stand above, for which the user has asked: if the terminal has not said how high it is,
+-- what says it
+abbrev pub why_below : Settings → List ℕ
+why_below s =
+    if s.words then codes "Boards are told in words here: none stands above.\n" else
+    if not s.scrolls_below then codes "This terminal can't keep a board above.\n" else
+    if s.rows == 0 then codes "How high is this terminal? rows 40 says it.\n" else
+    codes "This terminal is too low for a board above: it scrolls.\n"

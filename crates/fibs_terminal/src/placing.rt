@@ -1,5 +1,6 @@
 //! Where the newest board stands: above what is said, or in its midst, as `board above`, `rows` and `columns` say.
 ghost use Rattle.std.specs.Prelude.{◌≡◌};
+ghost use Rattle.fibs_terminal.specs.GoingOn.{why_below};
 
 use crate::drawing::{end_text, is_wanted};
 use crate::going_on::say_rows;
@@ -29,7 +30,9 @@ const ABOVE: &[u8] = b"The newest board stands above now: board below lets it sc
 const BELOW: &[u8] = b"Boards scroll now: board above has the newest one stand above.\n";
 
 /// Why it can't stand above.
-fn why_below(settings: &Settings<'_>) -> &'static [u8] {
+fn why_below(settings: &Settings<'_>) -> &'static [u8]
+    ensures { result.now ≡ why_below settings.now }
+{
     if settings.words {
         b"Boards are told in words here: none stands above.\n"
     } else if !settings.scrolls_below {
