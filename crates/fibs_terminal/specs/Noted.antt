@@ -1,13 +1,17 @@
 -- What a terminal takes note of when something is reported to it (the project's own).
-use Rattle.std.specs.Prelude.{◌≡◌, ◌/◌, ◌||◌, ℕ, Bool, true, false, nat_le, List, codes, is_some, IfSome}
+use Rattle.std.specs.Prelude.{◌≡◌, ◌≢◌, ◌/◌, ◌||◌, ℕ, Bool, true, false, nat_le, List, codes, Some, is_some, IfSome}
 use Rattle.std.specs.Str.{bytes_eq}
 use Rattle.std.specs.declared.time.Duration.{Duration}
 use Rattle.fibs_fields.specs.Split.{before}
+use Rattle.fibs_position.specs.DirectionOf.{direction_of}
+use Rattle.fibs_position.specs.GameOf.{game_of}
+use Rattle.fibs_position.specs.declared.game_board.GameBoard.{GameBoard}
 use Rattle.fibs_advice.specs.Passing.{goes}
 use Rattle.fibs_advice.specs.Situations.{waiting_after}
 use Rattle.fibs_advice.specs.Standings.{is_called}
+use Rattle.fibs_advice.specs.declared.situation.BoardAsked.TheVariants as B
 use Rattle.fibs_terminal.specs.Again.{after_lost, after_opened, takes_leave}
-use Rattle.fibs_terminal.specs.Boxes.{IsNewConnection, kept_of}
+use Rattle.fibs_terminal.specs.Boxes.{IsNewConnection, kept_looking, kept_of, nothing_watched}
 use Rattle.fibs_terminal.specs.Fixing.{after_end}
 use Rattle.fibs_terminal.specs.declared.memory.Memory.{Memory}
 use Rattle.fibs_terminal.specs.declared.people.ListAsked.TheVariants as A
@@ -47,6 +51,20 @@ pub record Reconnects (old : Memory) (nanoseconds : ℕ) (new : Memory) : Type 0
   pub talk : new.program.talk ≡ old.program.talk
   pub account : new.program.account ≡ old.program.account
   pub results : new.program.results ≡ old.program.results
+
+-- ---- boards
+
+-- a board of the user's game has come: it is said again what is advised, and whatever it is if he has asked for the
+-- board after his last decision; from now on he goes as it shows, its plays are listed from the first on, and no other
+-- game is watched
+pub record NotesGame (old : Memory) (game : GameBoard) (new : Memory) : Type 0 where
+  pub heard : new.here.table.boards.heard ≡ Some game
+  pub again : new.here.advising.says_again ≡ true
+  pub asked : old.here.situation.asked ≡ B.Now → new.here.advising.inquired ≡ true
+  pub unasked : old.here.situation.asked ≢ B.Now → new.here.advising.inquired ≡ old.here.advising.inquired
+  pub direction : new.here.direction ≡ Some (direction_of (game_of game))
+  pub looking : new.here.looking ≡ kept_looking old.here.looking
+  pub watching : new.here.watching ≡ nothing_watched
 
 -- ---- lines that were sent
 

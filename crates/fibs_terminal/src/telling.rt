@@ -1,13 +1,13 @@
 //! What a terminal shows of what is reported to it.
-ghost use Rattle.std.specs.Prelude.{◌≡◌, ◌≢◌, ◌++◌, IfSome, OnOk, [], codes, false, length, true};
+ghost use Rattle.std.specs.Prelude.{◌≡◌, ◌≢◌, ◌++◌, ◌||◌, IfSome, OnOk, [], codes, false, length, true};
 ghost use Rattle.std.specs.Str.{bytes_eq};
 ghost use Rattle.fibs_commands.specs.TextOf.{text_of};
 ghost use Rattle.fibs_fields.specs.Split.{before};
 ghost use Rattle.fibs_game.specs.declared.refusal.Refusal.TheVariants.{IllegalPlay};
 ghost use Rattle.fibs_advice.specs.Standings.{is_called, is_in_match};
 ghost use Rattle.fibs_terminal.specs.Listed.{after_passed};
-ghost use Rattle.fibs_terminal.specs.Noted.{Loses, NotesPassed, NotesSent, Opens};
-ghost use Rattle.fibs_terminal.specs.Reasons.{of_board, reason_of};
+ghost use Rattle.fibs_terminal.specs.Noted.{Loses, NotesGame, NotesPassed, NotesSent, Opens};
+ghost use Rattle.fibs_terminal.specs.Reasons.{asks_advice, of_board, reason_of};
 ghost use Rattle.fibs_terminal.specs.Retold.{on_word, sent_row};
 ghost use Rattle.fibs_terminal.specs.WatchedKept.{passed_watching};
 
@@ -169,7 +169,9 @@ impl<'a> Screen<'a> {
     }
 
     /// Hears a board of the user's game.
-    fn hear_game(&mut self, game: &GameBoard) -> Result<(), AllocError> {
+    fn hear_game(&mut self, game: &GameBoard) -> Result<(), AllocError>
+        ensures { OnOk result (NotesGame self.old.memory game.now self.new.memory) }
+    {
         let alloc = self.page.alloc;
         self.note_score(game.board());
         let converses = self.memory.program.converses;
@@ -210,7 +212,15 @@ impl<'a> Screen<'a> {
     }
 
     /// Says why a plain command was not sent.
-    fn say_not_sent(&mut self, why: PlainRefusal) -> Result<(), AllocError> {
+    fn say_not_sent(&mut self, why: PlainRefusal) -> Result<(), AllocError>
+        ensures { self.new.memory ≡ record self.old.memory {
+          here = record self.old.memory.here {
+            advising = record self.old.memory.here.advising {
+              inquired = asks_advice why || self.old.memory.here.advising.inquired;
+            };
+          };
+        } }
+    {
         if why == PlainRefusal::NotOn {
             self.memory.here.advising.inquired = true;
         }
