@@ -100,13 +100,15 @@ row_left s situation old says a row before due none text = record {
 -- what is shown of a move, how another match is played, and then the row of an advice
 pub rests : (client : ClientValue) (s : Settings) (m : Memory) (columns : ℕ) (before shown said after : List ℕ)
     (a : Advice) → columns ≡ own_columns s → ShowsSent client s before shown
+    → (m.program.above.held ≢ 0 → shown ≡ before)
     → SaysRematch columns m.here.advising.inquired m.here.situation.standing m.here.rematch shown said
     → ((t : Talk) → StandsAfter client t → Advises t m.here.situation.standing a)
     → SaysRow s m.here.situation m.here.advising a said after → Rests client s m before after
-rests client s m columns before shown said after a wide sent again advised row = (
+rests client s m columns before shown said after a wide sent above again advised row = (
   shown,
   said,
   sent,
+  above,
   subst (λ n. SaysRematch n m.here.advising.inquired m.here.situation.standing m.here.rematch shown said) wide again,
   (a, advised, row),
 )

@@ -75,10 +75,11 @@ SaysAdvice client s memory before after = (a : Advice)
     × ((t : Talk) → StandsAfter client t → Advises t memory.here.situation.standing a)
     × SaysRow s memory.here.situation memory.here.advising a before after
 
--- before it stand the board after a move that was sent, if no board has confirmed it, and how another match is played,
--- if one has ended and that was not said, or the user asks
+-- before it stand the board after a move that was sent, if no board has confirmed it and none stands above, and how
+-- another match is played, if one has ended and that was not said, or the user asks
 abbrev pub Rests : ClientValue → Settings → Memory → List ℕ → List ℕ → Type 0
 Rests client s memory before after = (shown : List ℕ) × (said : List ℕ) × ShowsSent client s before shown
+    × (memory.program.above.held ≢ 0 → shown ≡ before)
     × SaysRematch (own_columns s) memory.here.advising.inquired memory.here.situation.standing memory.here.rematch shown
     said
     × SaysAdvice client s memory said after

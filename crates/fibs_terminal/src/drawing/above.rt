@@ -7,7 +7,7 @@
 //! rows are made free as it takes, so that nothing is lost that was said: line ends make them free below, `ESC [ N L`
 //! moves all rows down by them. A row that is said follows, else `ESC [ A` and a line end: rlwrap takes what comes
 //! after the last line end for a prompt. `ESC [ r` makes all rows scroll again.
-ghost use Rattle.std.specs.Prelude.{◌≡◌, ◌≤◌, ◌++◌, ◌+◌, ◌&&◌, count_by, OnOk, IfOk, IfSome, true, false};
+ghost use Rattle.std.specs.Prelude.{◌≡◌, ◌≢◌, ◌≤◌, ◌↔◌, ◌++◌, ◌+◌, ◌&&◌, count_by, OnOk, IfOk, IfSome, IsTrue, true, false};
 ghost use Rattle.fibs_lines.specs.Lines.{is_line_end};
 ghost use Rattle.fibs_position.specs.GameOf.{game_of};
 ghost use Rattle.fibs_position.specs.WatchedOf.{watched_of};
@@ -147,7 +147,9 @@ impl Above {
     }
 
     /// Whether rows are kept there.
-    pub fn is_held(&self) -> bool {
+    pub fn is_held(&self) -> bool
+        ensures { IsTrue result ↔ (self.now.held ≢ 0) }
+    {
         self.held != 0
     }
 

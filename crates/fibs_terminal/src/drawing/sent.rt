@@ -1,5 +1,5 @@
 //! The board after a move that was sent, before the server has shown it.
-ghost use Rattle.std.specs.Prelude.{◌≡◌, ◌++◌, OnOk, IfSome, false};
+ghost use Rattle.std.specs.Prelude.{◌≡◌, ◌++◌, OnOk, IfSome, false, true};
 ghost use Rattle.fibs_session.specs.History.Machine.{Talk};
 ghost use Rattle.fibs_session.specs.Calls.Standing.{StandsAfter};
 ghost use Rattle.fibs_terminal.specs.Sent.{AddsSent, IsSentNow, ShowsSent, not_confirmed};
@@ -99,7 +99,8 @@ impl Boards {
         settings: &Settings<'_>,
         text: &mut Vec<u8>,
     ) -> Result<(), AllocError>
-        ensures { OnOk result (ShowsSent client.now settings.now text.old.items text.new.items) }
+        ensures sent { OnOk result (ShowsSent client.now settings.now text.old.items text.new.items) }
+        ensures held { is_held ≡ true → OnOk result (text.new.items ≡ text.old.items) }
     {
         if is_held {
             return Ok(());
