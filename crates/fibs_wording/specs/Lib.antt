@@ -3,6 +3,7 @@ pub mod Broken
 pub mod Endings
 pub mod Greetings
 pub mod Invitations
+pub mod MatchRows
 pub mod Matches
 pub mod Rated
 pub mod Rematch

@@ -3,6 +3,7 @@ ghost use Rattle.std.specs.Prelude.{◌≡◌, ◌<◌, ◌↔◌, ◌⊎◌, �
 ghost use Rattle.fibs_fields.specs.Rating.{hundredths_of};
 ghost use Rattle.fibs_fields.specs.Split.{after, before};
 ghost use Rattle.fibs_wording.specs.Endings.{SaysEnding, SaysScore, SaysWinner};
+ghost use Rattle.fibs_wording.specs.MatchRows.{AreSaid, balance_words, file_lines, none_words, won_of};
 ghost use Rattle.fibs_wording.specs.Matches.{IsRatingField, SaysPlayed, after_tab, experience_field, final_score, is_won, later, match_line, opponent_in, played_fields, rated_fields, rating_field, score_field};
 
 use crate::environment::shown::pad_from;
@@ -395,7 +396,10 @@ fn push_asked_for<'a>(
     file: &'a [u8],
     name: &[u8],
     found: &mut Vec<PlayedMatch<'a>>,
-) -> Result<(), AllocError> {
+) -> Result<(), AllocError>
+    ensures { OnOk result ((asked : List PlayedMatch) × (found.new.items ≡ found.old.items ++ asked)
+        × AreSaid name.now (file_lines file.now) asked) }
+{
     for line in file.split(|byte| *byte == b'\n') {
         if let Some(played) = read_match(line) {
             if played.is_asked_for(name) {
@@ -407,7 +411,9 @@ fn push_asked_for<'a>(
 }
 
 /// How many of these matches the user has won.
-fn won(found: &[PlayedMatch<'_>]) -> usize {
+fn won(found: &[PlayedMatch<'_>]) -> usize
+    ensures { result ≡ won_of found.now }
+{
     found.iter().filter(|played| played.is_won()).count()
 }
 
@@ -416,7 +422,9 @@ fn append_balance(
     name: &[u8],
     found: &[PlayedMatch<'_>],
     text: &mut Vec<u8>,
-) -> Result<(), AllocError> {
+) -> Result<(), AllocError>
+    ensures { OnOk result (text.new.items ≡ text.old.items ++ balance_words name.now found.now) }
+{
     if name.is_empty() {
         append_number(found.len(), text)?;
         text.extend_from_slice(if found.len() == 1 {
@@ -436,7 +444,9 @@ fn append_balance(
 }
 
 /// Appends that there is no match in the file, or none with a player.
-fn append_none(name: &[u8], text: &mut Vec<u8>) -> Result<(), AllocError> {
+fn append_none(name: &[u8], text: &mut Vec<u8>) -> Result<(), AllocError>
+    ensures { OnOk result (text.new.items ≡ text.old.items ++ none_words name.now) }
+{
     text.extend_from_slice(b"No match")?;
     if Name::new(name).is_some() {
         text.extend_from_slice(b" with ")?;

@@ -1,5 +1,5 @@
 //! Bytes of a server as a terminal shows them: none of them acts on it.
-ghost use Rattle.std.specs.Prelude.{OnOk};
+ghost use Rattle.std.specs.Prelude.{◌≡◌, ◌++◌, ◌-◌, OnOk, length, replicate};
 ghost use Rattle.fibs_wording.specs.Shown.{AddsShown};
 
 use fibs_fields::hex::hex_escape;
@@ -95,7 +95,10 @@ pub fn append_shown(bytes: &[u8], letters: bool, text: &mut Vec<u8>) -> Result<(
 }
 
 /// Appends spaces until a text has so many columns since a place. The text is of ASCII there.
-pub fn pad_from(start: usize, columns: usize, text: &mut Vec<u8>) -> Result<(), AllocError> {
+pub fn pad_from(start: usize, columns: usize, text: &mut Vec<u8>) -> Result<(), AllocError>
+    ensures { OnOk result (text.new.items ≡ text.old.items
+        ++ replicate (columns - (length text.old.items - start)) 32) }
+{
     let used = text.len().saturating_sub(start);
     for _ in used..columns {
         text.extend_from_slice(b" ")?;
