@@ -142,6 +142,25 @@ fn open_is_typed_when_it_is_due() {
     }
 }
 
+/// What is due, alone, is as something typed: nothing is waited for.
+#[test]
+fn what_is_due_is_not_waited_for() {
+    let rows: [(&str, fn(&Dues)); 5] = [
+        ("order", |dues| dues.order.set(true)),
+        ("board", |dues| dues.board.set(true)),
+        ("fix", |dues| dues.fix.set(Some(FixLine::Bye))),
+        ("end", |dues| dues.end.set(true)),
+        ("open", |dues| dues.open.set(true)),
+    ];
+    for (name, falls_due) in rows {
+        let (dues, clock) = (Dues::new(), Cell::new(0));
+        falls_due(&dues);
+        let mut waits = Waits { clock: &clock, parts: 1, times: Vec::new() };
+        let first = OrderedWatch::new(&mut waits, Moved(&clock), &dues).first();
+        assert_eq!((first, waits.times), (First::Typed, vec![]), "{name}");
+    }
+}
+
 /// It is never put into a line that is half typed.
 #[test]
 fn open_comes_between_two_lines() {
