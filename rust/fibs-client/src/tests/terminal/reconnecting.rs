@@ -170,14 +170,17 @@ impl Clock for Ticking {
     }
 }
 
-/// That a login was refused is said two seconds after the connection was made, if others come and no greeting does.
+/// That a login was refused is said two seconds after the connection was made, if others come or go and no greeting
+/// comes.
 #[test]
 fn a_server_has_two_seconds_to_greet() {
     const ROW: &str = "Not logged in: wrong name or password? If nothing follows, type quit.\n";
-    let steps = [Cue::Opens, Cue::Hears(b"7 carol carol logs in.\r\n"), Cue::Rests];
-    // three looks: the connection is made at the first, and the user may type at the third
-    for (millis, is_said) in [(1000, true), (999, false), (500, false)] {
-        let text = shown_by(Ticking(Cell::new(60_000), millis), &steps);
-        assert_eq!(text.ends_with(ROW), is_said, "{millis} ms: {text}");
+    for line in [b"7 carol carol logs in.\r\n".as_slice(), b"8 carol carol drops connection.\r\n"] {
+        let steps = [Cue::Opens, Cue::Hears(line), Cue::Rests];
+        // three looks: the connection is made at the first, and the user may type at the third
+        for (millis, is_said) in [(1000, true), (999, false), (500, false)] {
+            let text = shown_by(Ticking(Cell::new(60_000), millis), &steps);
+            assert_eq!(text.ends_with(ROW), is_said, "{millis} ms: {text}");
+        }
     }
 }
