@@ -50,8 +50,8 @@
  * - A text is a pointer and how many bytes it has. It needs no zero at its end. NULL with the length 0 is the empty
  *   text.
  * - `room` counts the bytes that a call may write, `count` the records; NULL with 0 is no room.
- * - What follows the bytes of a text, of a name or of a wire, and the rows and plays that are told, is as it was. The
- *   steps after the count of a decision that is told are zeros.
+ * - What follows the bytes of a text, of a board's name or of a wire, and the rows and plays that are told, is as it
+ *   was. What follows those of a fibs_name, and the steps of a decision that is told, is zeros.
  * - Every other pointer is not null. Each is valid for what its length, its room or its type says, and what a call
  *   writes through one pointer does not overlap what another pointer of that call points to.
  *
@@ -499,20 +499,20 @@ fibs_status fibs_client_decide(fibs_client *client, const fibs_decision *decisio
 
 /* Hands out a command that decides nothing in the game, by its text: `who`, `tell bob hi`, `toggle automove` and so on
  * (docs/FORMATS.md). It is handed out before the login is answered too: wait for fibs_client_ready. NO_COMMAND;
- * NO_HANDLE; OFFLINE, NOT_ON; BAD_NAME to TOO_LONG. */
+ * NO_HANDLE; OFFLINE, NOT_ON; BAD_NAME, TOO_LONG, BAD_TEXT. */
 fibs_status fibs_client_plain(fibs_client *client, const char *text, size_t len, fibs_wire *wire);
 
 /* Hands out a line of your own with its line end, for what the client has no command for: `leave`, `watch bob`, `who
  * ready`, `accept` or `reject` as the answer to an offer to resign. The client does not know of it, and is as it was.
  * It refuses a line that it would take itself, and each line that decides in the game, also while a decision waits: one
  * that begins with `roll`, `move`, `double`, `redouble` or `resign`, with a shorter form of these words in any letters,
- * or with a space; and an answer, if the board that is shown has a double to be answered. BAD_TEXT, TOO_LONG;
+ * or with a space; and an answer, if the board that is shown has a double to be answered. TOO_LONG, BAD_TEXT;
  * NO_HANDLE; OFFLINE, TAKEN. */
 fibs_status fibs_client_own_line(fibs_client *client, const char *line, size_t len, fibs_wire *wire);
 
 /* The same of any line, also of one that decides: for a decision that waits since the server refused it by a text, and
  * that the user makes once more. What the client promises, that no decision is sent twice, does not hold of such a line:
- * the client does not know of it. BAD_TEXT, TOO_LONG; NO_HANDLE; OFFLINE. */
+ * the client does not know of it. TOO_LONG, BAD_TEXT; NO_HANDLE; OFFLINE. */
 fibs_status fibs_client_unguarded_line(fibs_client *client, const char *line, size_t len, fibs_wire *wire);
 
 /* Gives a standing order for this connection: at each new board on which the user is to roll and may not double the
@@ -598,7 +598,8 @@ typedef struct fibs_event {
     fibs_decision play;        /* of the kind MOVE, with at least one step; else of the kind NONE */
     uint8_t kind;              /* one of FIBS_EVENT_.. */
     uint8_t who;               /* one of FIBS_SIDE_.. */
-    uint8_t worth;             /* one of FIBS_WORTH_..: UNKNOWN if no board has shown the cube */
+    uint8_t worth;             /* one of FIBS_WORTH_..: UNKNOWN if no board has shown the cube, or the
+                                * points are not one, two or three times its number */
     uint8_t offer;             /* one of FIBS_OFFER_.. */
     uint8_t dice[2];
 } fibs_event;
@@ -618,9 +619,9 @@ void fibs_events_free(fibs_events *events);
  * goes on after one is lost; leave out lines that were cut. NO_HANDLE; MEMORY. */
 fibs_status fibs_events_hear(fibs_events *events, const char *line, size_t len, fibs_happened *happened);
 
-/* Hears bytes of a connection as they come, in whatever pieces; their lines go to fibs_events_hear besides. Gives what
- * no line says: LOGIN_REFUSED, once of each question for the login that comes again before the server has greeted the
- * user. NO_HANDLE. */
+/* Hears bytes of a connection as they come; their lines go to fibs_events_hear besides. Gives what
+ * no line says: LOGIN_REFUSED, if the bytes so far end with the question for the login, which has come again before the
+ * server has greeted the user; once of each. NO_HANDLE. */
 fibs_status fibs_events_hear_bytes(fibs_events *events, const char *bytes, size_t len, fibs_happened *happened);
 
 /* A connection is opened, on which the server asks for the login anew. The first one need not be told. NO_HANDLE. */

@@ -219,7 +219,7 @@ export type Event =
 export class Events {
   /** What a line says; hear each once, in order, over connections too, but none that was cut. */
   hear(line: Bytes): Event[];
-  /** What no line says: that the login was refused. Give it all that comes, in whatever pieces. */
+  /** What no line says: that the login was refused. Give it each piece as it comes: the question has to be its end. */
   hearBytes(piece: Bytes): Event[];
   /** A connection is opened, on which the server asks for the login anew. The first one need not be told. */
   open(): void;

@@ -44,8 +44,8 @@ class Events(Handle):
 
     def hear_bytes(self, piece: Bytes) -> List[Event]:
         """What bytes of the server say that no line does: `LoginRefused`, once of each question for the login that
-        comes again before the server has greeted the user. Give it all bytes of a connection, in whatever pieces;
-        their lines go to `hear` besides. Closed."""
+        comes again before the server has greeted the user. Give it each piece of a connection as it comes:
+        the question has to be its end. The lines go to `hear` besides. Closed."""
         data, told = piece_of(piece), _library.Happened()
         check(_library.lib.fibs_events_hear_bytes(self._owned.at, data, len(data), byref(told)))
         return _told(told, data)

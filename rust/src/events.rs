@@ -57,8 +57,8 @@ impl Events {
     }
 
     /// What bytes of the server say that no line does: [`Event::LoginRefused`], once of each question for the login that
-    /// comes again before the server has greeted the user. Give it all bytes of a connection, in whatever pieces; their
-    /// lines go to [`hear`](Events::hear) besides.
+    /// comes again before the server has greeted the user. Give it each piece of a connection as it comes: the
+    /// question has to be its end. The lines go to [`hear`](Events::hear) besides.
     ///
     /// ```
     /// let mut events = fibs::Events::new();
