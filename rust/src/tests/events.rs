@@ -1,7 +1,9 @@
 //! Events: what each line says has happened, by a table; a session in any pieces; a match that is cut and resumed;
 //! lines in any order.
 
-use crate::{Event, Events, Length, Lines, Offer, Reading, Side, Stake, read};
+use crate::tests::steps::board_of;
+use crate::tests::table::turns;
+use crate::{Board, Decision, Event, Events, Length, Lines, Offer, Play, Reading, Side, Stake, read};
 
 /// The board with which a game to 3 points begins: ann has rolled 6 and 3, or nothing yet.
 const BEGUN: &str = "board:You:eve:3:0:0:0:-2:0:0:0:0:5:0:3:0:0:0:-5:5:0:0:0:-3:0:-5:0:0:0:0:2:0:1:6:3:0:0:1:1:1:0:1:-1:0:25:0:0:0:0:2:0:0:0";
@@ -449,6 +451,39 @@ fn what_was_known_ends_with_what_it_is_of() {
     for (lines, wanted) in rows {
         assert_eq!(heard(lines.iter().copied()), *wanted, "{lines:?}");
     }
+}
+
+/// The plays that boards tell; the one of no step if a side can't move.
+fn plays_told(boards: [Board; 2]) -> Vec<Play> {
+    let mut events = Events::new();
+    let mut plays = Vec::new();
+    for board in boards {
+        plays.extend(events.hear(&Reading::Board(board)).unwrap().filter_map(|event| match event {
+            Event::Played { play, .. } => Some(play),
+            Event::CannotMove { .. } => Some(Play::new()),
+            _ => None,
+        }));
+    }
+    plays
+}
+
+/// A server asks for no dice: it may carry out what the rules forbid. Of worked turns, as both sides see them, only a
+/// legal play is told, also if another one leads to the same checkers.
+#[test]
+fn boards_tell_no_play_against_the_rules() {
+    let mut untold = 0;
+    for row in turns(include_str!("turns.txt")).unwrap() {
+        let before = board_of(&row);
+        for play in &row.refused {
+            let Some(after) = before.after(&Decision::Move(*play), [0, 0]) else { continue };
+            for boards in [[before, after], [before.turned(), after.turned()]] {
+                let told = plays_told(boards);
+                assert!(told.iter().all(|play| row.plays.contains(play)), "{}: {play} is told as {told:?}", row.name);
+                untold += usize::from(told.is_empty());
+            }
+        }
+    }
+    assert!(untold > 20, "{untold}");
 }
 
 /// How often bytes that come in pieces of this size say that the login was refused.

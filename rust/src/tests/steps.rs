@@ -6,7 +6,7 @@ use crate::tests::table::{Checkers, WorkedTurn, rows, turns};
 use crate::{Board, BoardFault, CubeOwner, Decision, Play, Position, Step, Turn, WatchedBoard};
 
 /// The board of a worked turn, for a player of O who goes down.
-fn board_of(turn: &WorkedTurn) -> Board {
+pub fn board_of(turn: &WorkedTurn) -> Board {
     let mut places = [0; 26];
     for (side, sign) in [(&turn.own, 1), (&turn.other, -1)] {
         for (place, count) in side {
