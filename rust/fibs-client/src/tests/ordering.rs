@@ -135,10 +135,11 @@ fn open_is_typed_when_it_is_due() {
         let count = input.read(&mut room).expect("it is read");
         let wanted: (First, &[u8]) = if at.is_some() { (First::Typed, b"open\n") } else { (First::Heard, b"roll\n") };
         assert_eq!((first, &room[..count]), wanted);
-        // it is typed once, and no time is waited for any more
+        // it is typed once, and nothing else; no time is waited for any more
         assert_eq!((dues.open_at.get(), dues.open.get()), (None, false));
         let count = input.read(&mut room).expect("it is read");
-        assert!(!room[..count].starts_with(b"open"));
+        let next: &[u8] = if at.is_some() { b"roll\n" } else { b"" };
+        assert_eq!(&room[..count], next);
     }
 }
 

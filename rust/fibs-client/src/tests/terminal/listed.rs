@@ -1,7 +1,11 @@
 //! Players that are listed, matches that are saved, moves that are listed, and talk that is kept.
 
 use super::lines::{ONE_AND_ONE, SETTINGS, TO_MOVE, WELCOME};
-use super::seats::{Cue, assert_wanted, plain_settings, shown, shown_then};
+use super::numbers::counted_otherwise;
+use super::rules::{BEARING_OFF, BLOT, TWO_ON_THE_BAR};
+use super::seats::{Cue, assert_wanted, own_settings, plain_settings, shown, shown_then};
+use crate::fibs_fields::boards::Board;
+use crate::fibs_position::{Direction, GameBoard, Numbers, Play};
 use crate::fibs_wording::environment::Settings;
 
 /// What the screen shows of a typed line, after these lines of the server.
@@ -224,6 +228,65 @@ fn moves_are_listed_screen_by_screen() {
     let place = list(&[b"plays 6", b"plays more"]);
     assert!(!moves(&place).is_empty() && moves(&place).iter().all(|row| row.contains(" 6-5")), "{place}");
     assert!(list(&[b"plays 17"]).ends_with("0 legal moves from there.\n"));
+}
+
+/// A place of the user's own numbers as he reads it.
+fn place_word(place: u8, is_turned: bool) -> String {
+    match place {
+        0 => "off".to_owned(),
+        25 => "bar".to_owned(),
+        _ if is_turned => (25 - place).to_string(),
+        _ => place.to_string(),
+    }
+}
+
+/// A move as he types it.
+fn move_words(play: &Play, is_turned: bool) -> String {
+    let ends = |place| place_word(place, is_turned);
+    let steps = play.steps().iter().map(|step| format!("{}-{}", ends(step.source()), ends(step.target())));
+    steps.collect::<Vec<_>>().join(" ")
+}
+
+/// The moves that are listed on all screens of a word, without what is said of hits.
+fn listed_by(settings: Settings<'_>, board: &[u8], word: &str) -> Vec<String> {
+    let before = [Cue::Hears(WELCOME), Cue::Hears(SETTINGS), Cue::Hears(board)];
+    let steps = [&[Cue::Types(word.as_bytes())][..], &[Cue::Types(b"plays more"); 3]].concat();
+    let text = shown_then(settings, &before, &steps);
+    let cells = moves(&text).into_iter().flat_map(|row| row.split("  ").map(str::trim));
+    let told = cells.map(|cell| cell.trim_start_matches("move ").split(", hits").next().unwrap_or("").replace('*', ""));
+    let mut listed: Vec<String> = told.filter(|steps| !steps.is_empty()).collect();
+    listed.sort_unstable();
+    listed
+}
+
+/// Asserts that the moves of a board that leave a place, or all, are listed in either numbers, drawn in one column and
+/// told.
+fn assert_listed(line: &[u8], place: Option<u8>) {
+    let board = Board::read(line.trim_ascii_end()).expect("a board");
+    let game = GameBoard::of(&board).unwrap_or_else(|_| panic!("no position"));
+    let plays = game.position().plays().expect("memory");
+    let leaves = |play: &&Play| place.is_none_or(|place| play.steps().iter().any(|step| step.source() == place));
+    let chosen: Vec<&Play> = plays.iter().filter(leaves).collect();
+    for settings in [plain_settings(), own_settings()] {
+        let is_turned = settings.numbers == Numbers::TheServers && game.direction() == Direction::Up;
+        let word = place.map_or("plays".to_owned(), |place| format!("plays {}", place_word(place, is_turned)));
+        let mut wanted: Vec<String> = chosen.iter().map(|play| move_words(play, is_turned)).collect();
+        wanted.sort_unstable();
+        for settings in [Settings { columns: 30, ..settings }, Settings { words: true, ..settings }] {
+            assert_eq!(listed_by(settings, line, &word), wanted, "{word} on {}", line.escape_ascii());
+        }
+    }
+}
+
+#[test]
+fn each_legal_move_is_listed_once_and_no_other_one() {
+    for line in [ONE_AND_ONE, BLOT, TWO_ON_THE_BAR, BEARING_OFF] {
+        for line in [line.to_vec(), counted_otherwise(line)] {
+            for place in (1..=25).map(Some).chain([None]) {
+                assert_listed(&line, place);
+            }
+        }
+    }
 }
 
 /// One move is one; and a list goes on only on its board.

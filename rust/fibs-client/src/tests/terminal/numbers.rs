@@ -121,6 +121,18 @@ fn a_move_that_the_server_tells_has_the_users_numbers() {
     assert_ends(own_settings(), &start, &steps, "bob moves 24-22 . (the server's numbers)\n");
 }
 
+/// Of the boards of a match the last one counts; no board of the match before does.
+#[test]
+fn a_move_has_the_numbers_of_the_board_that_came_last() {
+    for (first, last, row) in [(DOWN, UP, "bob moves 1-3 .\n"), (UP, DOWN, "bob moves 24-22 .\n")] {
+        let boards = [Cue::Hears(WELCOME), Cue::Hears(SETTINGS), Cue::Hears(first), Cue::Hears(last)];
+        assert_ends(own_settings(), &boards, &[Cue::Hears(b"bob moves 24-22 .\r\n")], row);
+    }
+    let begins = Cue::Hears(b"** You are now playing a 3 point match with eve.\r\n");
+    let steps = [begins, Cue::Hears(b"eve moves 24-22 .\r\n")];
+    assert_ends(own_settings(), &on(UP), &steps, "eve moves 24-22 . (the server's numbers)\n");
+}
+
 #[test]
 fn a_move_that_may_be_lost_is_named_in_both_numbers() {
     let before = [Cue::Hears(WELCOME), Cue::Hears(SETTINGS), Cue::Hears(UP), Cue::Rests, Cue::Types(b"21/10")];
@@ -129,7 +141,7 @@ fn a_move_that_may_be_lost_is_named_in_both_numbers() {
 }
 
 /// The line of the same board as a server shows it that counts the other way.
-fn counted_otherwise(line: &[u8]) -> Vec<u8> {
+pub fn counted_otherwise(line: &[u8]) -> Vec<u8> {
     let text = String::from_utf8_lossy(line);
     let mut fields: Vec<&str> = text.trim_end().split(':').collect();
     fields[6..32].reverse();
@@ -203,6 +215,7 @@ fn old_moves_have_the_servers_numbers() {
     for board in [UP, DOWN] {
         assert_ends(own_settings(), &on(board), &[Cue::Types(b"send oldmoves bob"), row], noted);
         assert_ends(own_settings(), &on(board), &[Cue::Types(b"send oldmoves"), row], noted);
+        assert_ends(own_settings(), &on(board), &[Cue::Types(b"send oldmoves"), row, row], &noted.repeat(2));
         assert_ends(
             own_settings(),
             &on(board),

@@ -1,7 +1,13 @@
-//! What a line of the user's own settings asks for.
+//! What a line of the user's own settings asks for, and what is said of a line that is no setting.
 
+use super::seats::{Stopped, assert_wanted, plain_settings};
 use crate::fibs_position::Numbers;
-use crate::fibs_wording::environment::{Setting, Telling, read_setting};
+use crate::fibs_terminal::Terminal;
+use crate::fibs_wording::environment::{Config, Setting, Settings, Telling, read_setting};
+use crate::rattle::HostRuntime;
+use std::env;
+use std::fs;
+use std::process::{Command, id};
 
 /// What a line asks for, in a word.
 fn asked(line: &str) -> &'static str {
@@ -88,4 +94,34 @@ fn a_remark_is_no_setting() {
     for line in ["order roll", " order roll\r"] {
         assert!(matches!(read_setting(line.as_bytes()), Some(Setting::OrderRoll)), "{line}");
     }
+}
+
+/// What a terminal says of the settings in the file that the environment names.
+fn said_of_file() -> String {
+    let mut said = Vec::new();
+    let mut terminal = Terminal::new(&mut said, Stopped, Settings { columns: 999, ..plain_settings() });
+    terminal.configure(&Config::read(&HostRuntime).expect("there is memory")).expect("it is shown");
+    drop(terminal);
+    String::from_utf8(said).expect("it is UTF-8")
+}
+
+/// Is there in the environment of the process that says what the file has.
+const AGAIN: &str = "SAYS_SETTINGS";
+
+/// The environment is that of a process: this test runs itself in another one, with a file of settings.
+#[test]
+fn a_line_that_is_no_setting_is_told_with_its_number_and_its_file() {
+    if env::var_os(AGAIN).is_some() {
+        return print!("{}", said_of_file());
+    }
+    let path = env::temp_dir().join(format!("fibs-settings-{}", id()));
+    fs::write(&path, "quiet\ndance with me\nno bell\n").expect("it is written");
+    let name = "tests::terminal::settings::a_line_that_is_no_setting_is_told_with_its_number_and_its_file";
+    let mut again = Command::new(env::current_exe().expect("it has a path"));
+    let ran = again.args([name, "--exact", "--nocapture"]).env(AGAIN, "1").env("FIBS_CONFIG", &path).output();
+    fs::remove_file(&path).expect("it is there");
+    let said = String::from_utf8(ran.expect("it runs").stdout).expect("it is UTF-8");
+    let rows: Vec<&str> = said.lines().filter_map(|row| row.find("fibs: ").map(|at| &row[at..])).collect();
+    let wanted = format!("fibs: line 2 of {} is no setting: dance with me", path.display());
+    assert_wanted(rows == [wanted.as_str()], &said, &wanted);
 }
