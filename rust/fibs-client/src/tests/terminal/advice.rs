@@ -1,7 +1,7 @@
 //! What the screen says next, in each state of the conversation.
 
-use super::lines::{DOUBLED, MOVED, OVER, RESIGNS, SETTINGS, TO_MOVE, TO_ROLL, WELCOME};
-use super::seats::{Cue, Scene, assert_ends, assert_scenes, plain_settings};
+use super::lines::{DOUBLED, FIRST_BOARD, MOVED, OVER, RESIGNS, SETTINGS, TO_MOVE, TO_ROLL, WELCOME};
+use super::seats::{Cue, Scene, assert_ends, assert_scenes, assert_wanted, plain_settings, shown_then};
 
 /// What the server says when a match goes on that was saved.
 const RESUMED: &[u8] = b"bob has joined you. Your running match was loaded.\r\n";
@@ -17,8 +17,10 @@ const WON: &[u8] =
 /// What the server says of that match.
 const WON_MATCH: &[u8] = b"You win the 3 point match 3-1 .\r\n";
 
-/// The settings of a user for whom the server plays by itself: automove; automove and greedy.
+/// The settings of a user for whom the server plays by itself: automove; greedy; both.
 const AUTOMOVE: &[u8] = b"2 ann 1 1 0 1 0 0 1 1 0 0 1 0 1 1500.00 0 0 none 0 0 UTC\r\n";
+
+const GREEDY: &[u8] = b"2 ann 1 1 0 0 0 0 1 1 0 1 1 0 1 1500.00 0 0 none 0 0 UTC\r\n";
 
 const BOTH: &[u8] = b"2 ann 1 1 0 1 0 0 1 1 0 1 1 0 1 1500.00 0 0 none 0 0 UTC\r\n";
 
@@ -196,6 +198,51 @@ fn rows_come_in_their_order() {
 #[test]
 fn an_offer_leads_on() {
     assert_scenes(plain_settings(), &OFFERS);
+}
+
+/// A double that the server has refused is not named again in that game: on the same board, in a later turn, and in
+/// place of an offer to resign. In the next game it is.
+static REFUSED_DOUBLES: [Scene; 4] = [
+    (
+        &[Cue::Hears(b"** You can't double.\r\n"), Cue::Rests],
+        "** You can't double.\nYour turn: roll; the server refused a double in this game.\n",
+    ),
+    (
+        &[
+            Cue::Types(b"double"),
+            Cue::Hears(b"** You can't double.\r\n"),
+            Cue::Types(b"roll"),
+            Cue::Hears(TO_MOVE),
+            Cue::Types(b"move 24-18 13-11"),
+            Cue::Hears(MOVED),
+            Cue::Hears(TO_ROLL),
+            Cue::Rests,
+        ],
+        "\nYour turn: roll; the server refused a double in this game.\n",
+    ),
+    (
+        &[
+            Cue::Hears(b"** You can't double.\r\n"),
+            Cue::Types(b"resign n"),
+            Cue::Hears(b"bob rejects. The game continues.\r\n"),
+            Cue::Rests,
+        ],
+        "bob declined? Go on: roll.\n",
+    ),
+    (
+        &[
+            Cue::Hears(b"** You can't double.\r\n"),
+            Cue::Hears(b"Starting a new game with bob.\r\n"),
+            Cue::Hears(TO_ROLL),
+            Cue::Rests,
+        ],
+        "\nYour turn: roll, or double.\n",
+    ),
+];
+
+#[test]
+fn a_double_that_was_refused_is_not_named_again_in_that_game() {
+    assert_scenes(plain_settings(), &REFUSED_DOUBLES);
 }
 
 /// An offer of the opponent to resign: it is said once, and again if the user asks.
@@ -598,6 +645,42 @@ static LOGINS: [Scene; 6] = [
 #[test]
 fn a_login_leads_on() {
     assert_scenes(plain_settings(), &LOGINS);
+}
+
+/// The settings of a login, and whether the server plays for the user: all others that are on do not say so.
+static PLAYING: [(&[u8], bool); 5] = [
+    (SETTINGS, false),
+    (b"2 ann 1 1 1 0 1 1 1 1 5 0 1 1 1 1500.00 1 1 none 1 1 UTC\r\n", false),
+    (AUTOMOVE, true),
+    (GREEDY, true),
+    (BOTH, true),
+];
+
+/// Boards, and what is said last of each to a user who plays himself and asks: nothing if it is not his turn.
+static ASKED: [(&[u8], &str); 4] = [
+    (TO_ROLL, "Your turn: roll, or double.\n"),
+    (TO_MOVE, "Your move, as in: move 24-22 24-18\n"),
+    (DOUBLED, "You are offered a double: accept, or reject.\n"),
+    (MOVED, "help WORD says more about a word.\n"),
+];
+
+/// By the settings of this login: those of the one before say nothing of it.
+#[test]
+fn that_the_server_plays_is_said_if_it_does_and_only_then() {
+    const ROW: &str = "The server plays for you: fix turns it off, and logs in again.\n";
+    let logs_in = |settings| [Cue::Loses, Cue::Opens, Cue::Hears(WELCOME), Cue::Hears(settings)];
+    for (settings, plays) in PLAYING {
+        for (board, hint) in ASKED {
+            for before in [SETTINGS, BOTH] {
+                let known = [&FIRST_BOARD[..], &logs_in(before), &[Cue::Rests]].concat();
+                let asks = [Cue::Hears(board), Cue::Rests, Cue::Types(b"help"), Cue::Rests];
+                let steps = [&logs_in(settings)[..], &asks].concat();
+                let text = shown_then(plain_settings(), &known, &steps);
+                let row = if plays { ROW } else { hint };
+                assert_wanted(text.ends_with(row) && text.contains(ROW) == plays, &text, row);
+            }
+        }
+    }
 }
 
 /// What is typed after a match leads on to the next one: the row of what next comes again, but not by itself. `accept` is

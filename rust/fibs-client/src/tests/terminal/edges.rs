@@ -245,3 +245,42 @@ fn settings_have_the_rows_that_they_need() {
         assert_eq!(on, rows);
     }
 }
+
+/// The fields of message 2 after the name, in the server's order, and what they are if they are no setting that is off.
+static OWN_FIELDS: [(&str, Option<&str>); 20] = [
+    ("allowpip", None),
+    ("autoboard", None),
+    ("autodouble", None),
+    ("automove", None),
+    ("away", None),
+    ("bell", None),
+    ("crawford", None),
+    ("double", None),
+    ("experience", Some("0")),
+    ("greedy", None),
+    ("moreboards", None),
+    ("moves", None),
+    ("notify", None),
+    ("rating", Some("1500.00")),
+    ("ratings", None),
+    ("ready", None),
+    ("redoubles", Some("none")),
+    ("report", None),
+    ("silent", None),
+    ("timezone", Some("UTC")),
+];
+
+/// A setting that is on alone is named alone, by its own name.
+#[test]
+fn each_setting_is_named_by_its_own_field() {
+    for (at, (name, other)) in OWN_FIELDS.iter().enumerate() {
+        if other.is_some() {
+            continue;
+        }
+        let fields = OWN_FIELDS.iter().map(|(field, value)| value.unwrap_or(if field == name { "1" } else { "0" }));
+        let line = format!("2 ann {}\r\n", fields.collect::<Vec<_>>().join(" "));
+        // the second row begins after greedy
+        let row = if at < 10 { format!("On: {name}\n") } else { format!("On:\n    {name}\n") };
+        assert_ends(plain_settings(), &FIRST_BOARD, &[Hears(line.as_bytes())], &row);
+    }
+}

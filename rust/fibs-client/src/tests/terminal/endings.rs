@@ -1,6 +1,6 @@
 //! How a game ended, in words.
 
-use super::lines::{OVER, SETTINGS, TO_ROLL, WELCOME};
+use super::lines::{FIRST_BOARD, OVER, SETTINGS, TO_ROLL, WELCOME};
 use super::seats::{Cue, Scene, assert_ends, assert_scenes, plain_settings};
 
 /// A board at cube 2, and the one after the player has won its game.
@@ -32,6 +32,14 @@ static ENDINGS: [Scene; 4] = [
 #[test]
 fn the_end_of_a_game_is_told() {
     assert_scenes(plain_settings(), &ENDINGS);
+}
+
+/// If the board before is of another opponent, it says nothing of the points.
+#[test]
+fn the_end_of_a_game_is_not_told_by_a_board_of_another_match() {
+    let over = String::from_utf8(GAMMON.to_vec()).expect("ASCII").replace(":bob:", ":carol:");
+    let row = "\nThe game is over. You 2, carol 1 of 3.\n";
+    assert_ends(plain_settings(), &FIRST_BOARD, &[Cue::Hears(over.as_bytes())], row);
 }
 
 /// A board with other fields in place of the name, the length and the scores; at its end with another cube.

@@ -263,20 +263,29 @@ static SAVED: [Told; 7] = [
 #[test]
 fn who_is_here_of_a_saved_match_is_told() {
     assert_told(plain_settings(), &SAVED);
-    let unlimited = String::from_utf8(TO_ROLL.to_vec()).expect("ASCII").replace(":bob:3:", ":bob:9999:");
-    let steps = [
-        Cue::Hears(unlimited.as_bytes()),
-        Cue::Hears(b"bob drops connection. The game was saved.\r\n"),
-        Cue::Hears(b"7 bob bob logs in.\r\n"),
-    ];
-    let text = shown(plain_settings(), &FIRST_BOARD, &steps);
-    assert!(text.ends_with("bob is here: your match (0-1) is saved: invite bob.\n"), "{text}");
+}
+
+/// The match is saved as the board shows it that came last.
+#[test]
+fn the_score_of_a_saved_match_is_that_of_its_last_board() {
+    for (fields, score) in [("3:2:1", "2-1 of 3"), ("9999:0:1", "0-1")] {
+        let first = String::from_utf8(TO_ROLL.to_vec()).expect("ASCII");
+        let last = first.replace(":bob:3:0:1:", &format!(":bob:{fields}:"));
+        let steps = [
+            Cue::Hears(last.as_bytes()),
+            Cue::Hears(b"bob drops connection. The game was saved.\r\n"),
+            Cue::Hears(b"7 bob bob logs in.\r\n"),
+        ];
+        let text = shown(plain_settings(), &FIRST_BOARD, &steps);
+        let row = format!("bob is here: your match ({score}) is saved: invite bob.\n");
+        assert_wanted(text.ends_with(&row), &text, &row);
+    }
 }
 
 const LEFT: Cue<'static> = Cue::Hears(b"bob drops connection. The game was saved.\r\n");
 
 /// Invitations: who invites, to what, and the line to type, which is said once.
-static INVITED: [Told; 7] = [
+static INVITED: [Told; 9] = [
     (
         &[LEFT, Cue::Rests],
         &[Cue::Hears(b"eve wants to play a 3 point match with you.\r\n"), Cue::Rests, Cue::Rests],
@@ -286,6 +295,16 @@ static INVITED: [Told; 7] = [
         &[LEFT, Cue::Hears(b"5 eve - - 1 0 1623.45 77 0 1 host - -\r\n")],
         &[Cue::Hears(b"eve wants to play a 3 point match with you.  \r\n")],
         "eve (1623.45, experience 77) invites you to 3 points: join eve\n",
+    ),
+    (
+        &[LEFT, Cue::Rests],
+        &[Cue::Hears(b"bob wants to resume a saved match with you.\r\n"), Cue::Rests],
+        "bob invites you to resume your saved match: join bob\n",
+    ),
+    (
+        &[LEFT, Cue::Rests],
+        &[Cue::Hears(b"eve wants to play an unlimited match with you.\r\n"), Cue::Rests],
+        "eve invites you to an unlimited match: join eve\n",
     ),
     (
         &[],

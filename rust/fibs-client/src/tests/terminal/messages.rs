@@ -8,7 +8,7 @@ use crate::fibs_wording::environment::Settings;
 use crate::fibs_wording::reasons::{append_login_fault, append_unnoted};
 
 /// A line of the server, and what is shown of it.
-static LINES: [(&[u8], &str); 22] = [
+static LINES: [(&[u8], &str); 23] = [
     (b"1 ann 1041253132 localhost\r\n", "Welcome, ann. Last login: 30 December 2002, 12:58, from localhost.\n"),
     (b"12 bob hi\r\n", "13:07 bob says: hi\n"),
     (b"13 bob Anybody\\?\r\n", "13:07 bob shouts: Anybody\\?\n"),
@@ -32,6 +32,10 @@ static LINES: [(&[u8], &str); 22] = [
     (b"4\r\n", ""),
     (b"5 bob - - 1 0 1623.45 0 0 1 host - -\r\n6\r\n", ""),
     (b"12\r\n", "A message that can't be read: field 1 is missing [12 Missing]\n12\n"),
+    (
+        b"1 ann 99999999999999999999 localhost\r\n",
+        "A message that can't be read: field 2 is out of range [1 OutOfRange]\n1 ann 99999999999999999999 localhost\n",
+    ),
     (b"board:\r\n", "A board that can't be read: field 2 is no name or word [0 BadName]\nboard:\n"),
     (b"** You're \xc3\xa9 not playing.\r\n", "** You're \\xc3\\xa9 not playing.\n"),
 ];
@@ -78,7 +82,8 @@ fn assert_board(line: &str, fault: Option<&str>) {
     assert_shows(plain_settings(), &[Cue::Hears(sent.as_bytes())], &format!("{said}{line}\n"));
 }
 
-/// A field that is missing, one that is wrong, one too many; and too many checkers, of which nothing is said.
+/// A field that is missing, one that is wrong, a die of seven, one too many; and too many checkers, of which nothing is
+/// said.
 #[test]
 fn boards_of_every_malformed_kind_are_shown() {
     let board = str::from_utf8(TO_ROLL).expect("it is a text");
@@ -94,6 +99,7 @@ fn boards_of_every_malformed_kind_are_shown() {
         }
         assert_board(&with_field(&fields, number, &wrong), Some(&format!("field {number} {fault}")));
     }
+    assert_board(&with_field(&fields, 34, "7"), Some("field 34 is out of range [0 OutOfRange]"));
     assert_board(&format!("{board}:0"), Some("field 54 is one too many [0 Extra]"));
     assert_board(&with_field(&fields, 46, "15"), None);
     assert_board(&with_field(&fields, 47, "15"), None);
@@ -147,9 +153,11 @@ fn reasons_of_a_login_and_of_a_list_are_their_own() {
     let mut text = Vec::new();
     append_login_fault(PlainFault::BadText, &mut text).expect("memory");
     append_login_fault(PlainFault::TooLong, &mut text).expect("memory");
+    append_unnoted(DirectoryFault::Memory, &mut text).expect("memory");
     append_unnoted(DirectoryFault::Full, &mut text).expect("memory");
     let wanted = "A password has printable ASCII characters, at least one, no space. [2 BadText]\
                   A password has at most 64 characters. [3 TooLong]\
+                  The list of players lacks one: no memory is left. [1 Memory]\
                   The list of players lacks one: it holds 4096. [2 Full]";
     assert_eq!(String::from_utf8_lossy(&text), wanted);
 }

@@ -221,12 +221,16 @@ fn a_text_is_shown_each_time() {
     assert_scenes(plain_settings(), &TWICE);
 }
 
-/// A board is drawn again, and nobody was waited for.
-static DRAWN_AGAIN: [Scene; 2] = [
+/// A board is drawn again on another connection, and nobody was waited for; and when a game begins.
+static DRAWN_AGAIN: [Scene; 3] = [
     (&[Cue::Loses, Cue::Opens, Cue::Hears(WELCOME), Cue::Hears(TO_ROLL)], "   O You\n"),
     (
         &[Cue::Hears(MOVED), Cue::Loses, Cue::Opens, Cue::Hears(TO_ROLL)],
         concat!("connected to fibs.com:4321\n", to_roll_picture!()),
+    ),
+    (
+        &[Cue::Hears(b"Starting a new game with bob.\r\n"), Cue::Hears(TO_ROLL)],
+        concat!("Starting a new game with bob.\n", to_roll_picture!(), " You roll, or double, or resign.\n"),
     ),
 ];
 

@@ -1,23 +1,23 @@
 //! The rule that a move breaks, as a terminal names it.
 
-use super::lines::{SETTINGS, TO_MOVE, WELCOME};
+use super::lines::{ONE_AND_ONE, SETTINGS, TO_MOVE, WELCOME};
 use super::seats::{Cue, Scene, assert_ends, assert_has, assert_scenes, plain_settings, shown};
 use crate::fibs_wording::environment::Settings;
 
 /// A board with dice 5 and 4, on which the checker on 6 can't move and that on 4 can go off.
-const BEARING_OFF: &[u8] =
+pub const BEARING_OFF: &[u8] =
     b"board:You:bob:3:0:1:0:-2:-2:1:1:0:1:0:0:0:0:0:0:0:0:0:0:0:0:0:0:0:0:0:0:0:1:5:4:0:0:1:1:1:0:1:-1:0:25:12:11:0:0:1:0:0:0\r\n";
 
 /// A board with dice 6 and 2, on which a single checker of the opponent is on 18; and one with dice 5 and 3, on which
 /// two checkers of the player are on the bar.
-const BLOT: &[u8] =
+pub const BLOT: &[u8] =
     b"board:You:bob:3:0:1:0:-2:0:0:0:0:5:0:3:0:0:0:-5:5:0:0:0:-2:-1:-5:0:0:0:0:2:0:1:6:2:0:0:1:1:1:0:1:-1:0:25:0:0:0:0:2:0:0:0\r\n";
 
 /// A board with dice 2 and 2, two checkers on 24, and one of the opponent's on 22.
 const ONE_ALONE: &[u8] =
     b"board:You:bob:5:0:0:0:0:0:0:0:0:0:0:0:0:0:0:0:0:0:0:0:0:0:0:0:0:-1:0:2:0:1:2:2:0:0:1:1:1:0:1:-1:0:25:13:14:0:0:1:0:0:0\r\n";
 
-const TWO_ON_THE_BAR: &[u8] =
+pub const TWO_ON_THE_BAR: &[u8] =
     b"board:You:bob:3:0:1:0:-2:0:0:0:0:5:0:3:0:0:0:-5:5:0:0:0:-3:0:-5:0:0:0:0:0:2:1:5:3:0:0:1:1:1:0:1:-1:0:25:0:0:2:0:2:0:0:0\r\n";
 
 /// Moves, and the rule that each breaks.
@@ -37,6 +37,29 @@ static RULES: [Scene; 7] = [
 #[test]
 fn the_rule_that_a_move_breaks_is_named() {
     assert_scenes(plain_settings(), &RULES);
+}
+
+/// Two checkers are left, on 24, and the dice are 6 and 4; or one, and by 6 and 5 it can take one step, not two.
+const TWO_LEFT: &[u8] =
+    b"board:You:bob:5:0:0:0:-2:0:0:0:0:0:0:0:0:0:0:0:0:0:0:0:0:0:0:0:0:0:0:2:0:1:6:4:0:0:1:1:1:0:1:-1:0:25:13:13:0:0:2:0:0:0\r\n";
+
+const ONE_LEFT: &[u8] =
+    b"board:You:bob:5:0:0:0:0:0:0:0:0:0:0:0:0:0:0:0:-2:0:0:0:0:0:0:0:0:0:0:1:0:1:6:5:0:0:1:1:1:0:1:-1:0:25:14:13:0:0:1:0:0:0\r\n";
+
+/// Moves of which each step is played by a die, and the rule of the dice that each breaks: none is named if one die is
+/// used twice.
+static DICE: [Scene; 3] = [
+    (
+        &[Cue::Hears(ONE_AND_ONE), Cue::Types(b"move 24-23 24-23")],
+        "\nAs many dice as can be must be played: 4. [9 IllegalPlay]\n",
+    ),
+    (&[Cue::Hears(ONE_LEFT), Cue::Types(b"move 24-19")], "\nThe larger die must be played. [9 IllegalPlay]\n"),
+    (&[Cue::Hears(TWO_LEFT), Cue::Types(b"m 24/18 18/12")], "\nThe rules don't allow this move. [9 IllegalPlay]\n"),
+];
+
+#[test]
+fn the_rule_of_the_dice_is_named_unless_a_die_is_used_twice() {
+    assert_scenes(plain_settings(), &DICE);
 }
 
 /// Moves from a place are those of which any step is from there, in as many columns as have room.

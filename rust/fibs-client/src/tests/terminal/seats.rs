@@ -1,6 +1,8 @@
 //! A client and a terminal, to which a server's lines and typed lines are given.
 
 use super::lines::FIRST_BOARD;
+use crate::fibs_advice::advised::{Aside, advised};
+use crate::fibs_advice::saying::append_advice;
 use crate::fibs_advice::standing::Standing;
 use crate::fibs_connect::fault::FrontFault;
 use crate::fibs_connect::front::Front;
@@ -296,6 +298,20 @@ pub fn standing_after(before: &[Cue<'_>], steps: &[Cue<'_>]) -> Standing {
     let mut terminal = Terminal::new(Vec::new(), Stopped, plain_settings());
     TestSeat::new().take_both(before, steps, &mut terminal).expect("it is shown");
     terminal.screen.memory.here.situation.standing
+}
+
+/// What is advised after some steps and those after them, if no player is listed.
+pub fn advice_after(before: &[Cue<'_>], steps: &[Cue<'_>]) -> String {
+    let mut terminal = Terminal::new(Vec::new(), Stopped, plain_settings());
+    let mut seat = TestSeat::new();
+    seat.take_both(before, steps, &mut terminal).expect("it is shown");
+    let situation = &terminal.screen.memory.here.situation;
+    let aside = Aside { is_listed: true, had_time: false };
+    let advice = advised(&seat.client, situation, aside).expect("there is memory");
+    let (opponent, inviter) = (situation.opponent.name.as_slice(), situation.inviter.name.as_slice());
+    let mut text = Vec::new();
+    append_advice(&advice, Numbers::TheServers, opponent, inviter, &mut text).expect("there is memory");
+    String::from_utf8(text).expect("ASCII")
 }
 
 /// Asserts that a text is as it is wanted.

@@ -9,7 +9,7 @@ const BOARD: &[u8] =
     b"board:You:bob:3:0:1:0:-2:0:0:0:0:5:0:3:0:0:0:-5:5:0:0:0:-3:0:-5:0:0:0:0:2:0:1:6:5:0:0:1:1:1:0:1:-1:0:25:0:0:0:0:2:0:0:0\r\n";
 
 /// What is typed, and the end of what is shown then.
-static LINES: [(&[u8], &str); 40] = [
+static LINES: [(&[u8], &str); 41] = [
     (b"24/13", "sent move 24-18 18-13\n"),
     (b"24/18/13", "sent move 24-18 18-13\n"),
     (b"M 24/18 13/8", "sent move 24-18 13-8\n"),
@@ -35,6 +35,7 @@ static LINES: [(&[u8], &str); 40] = [
     (b"rolll", "\nrolll: roll?\n"),
     (b"rool", "\nrool: roll?\n"),
     (b"rlol", "\nrlol: roll?\n"),
+    (b"rxol", "unknown: help lists the words\n"),
     (b"jion bob", "\njion: join?\n"),
     (b"acept", "\nacept: accept?\n"),
     (b"ro", "unknown: help lists the words\n"),

@@ -1,5 +1,7 @@
 //! The game so far: each play of a game is told by the boards before and after it.
 
+use super::lines::{SETTINGS, WELCOME};
+use super::seats::{Cue, plain_settings, shown_then};
 use crate::fibs_events::finding::played;
 use crate::fibs_events::mirror::mirrored;
 use crate::fibs_fields::boards::Board;
@@ -156,6 +158,14 @@ fn who_cannot_move_has_no_move() {
     assert_eq!(story_of(&[closed, after], false), "  1. You roll 3 and 1: no move\n");
 }
 
+/// By 6 and 5 the checker on 24 can go to 13 by 18 alone: the opponent holds 19.
+#[test]
+fn a_turn_has_the_steps_of_its_play() {
+    let before = *rolled(&Board::read(FIRST).expect("a board"), [6, 5]).board();
+    let after = with_fields(FIRST, &[(19, "6"), (30, "1"), (32, "-1")]);
+    assert_eq!(story_of(&[before, after], false), "  1. You roll 6 and 5: 24-18 18-13\n");
+}
+
 /// A turn: the board with its dice, and the one after it, with the score of the player.
 fn turn(score: &str) -> [Board; 2] {
     let first = with_fields(FIRST, &[(4, score)]);
@@ -185,6 +195,20 @@ fn the_last_twenty_turns_are_listed() {
             "{rows}"
         );
         assert!(rows.contains(&format!("\n{count:3}. You roll")), "{rows}");
+    }
+}
+
+/// `moves` lists them, and `moves all` lists the others too.
+#[test]
+fn the_last_twenty_turns_are_listed_unless_all_are_asked_for() {
+    let boards = turn("0").repeat(21);
+    let lines: Vec<_> = boards.iter().map(|board| [board.print().as_slice(), b"\r\n"].concat()).collect();
+    let mut before = vec![Cue::Hears(WELCOME), Cue::Hears(SETTINGS)];
+    before.extend(lines.iter().map(|line| Cue::Hears(line)));
+    for (typed, first, count) in [(&b"moves"[..], ".. 1 before: moves all\n  2. ", 20), (b"moves all", "  1. ", 21)] {
+        let rows = shown_then(plain_settings(), &before, &[Cue::Types(typed)]);
+        let turns = rows.lines().filter(|row| row.contains(". You roll 3 and 1: ")).count();
+        assert!(rows.starts_with(first) && turns == count, "{rows}");
     }
 }
 

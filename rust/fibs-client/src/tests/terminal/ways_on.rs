@@ -2,7 +2,7 @@
 //! or by the rules of the conversation it is not he who is to act.
 
 use super::lines::{DOUBLED, FIRST_BOARD, MOVED, OVER, SETTINGS, TO_MOVE, TO_ROLL, WELCOME};
-use super::seats::{Cue, plain_settings, shown, standing_after};
+use super::seats::{Cue, advice_after, assert_ends, plain_settings, shown, standing_after};
 use crate::fibs_advice::standing::Standing;
 
 const RESIGNS: Cue<'static> = Cue::Hears(b"bob wants to resign. You will win 1 point.\r\n");
@@ -136,6 +136,50 @@ fn leads_on(advice: &str, is_board_known: bool) -> bool {
 fn each_state_is_reached() {
     for (state, way) in WAYS {
         assert_eq!(standing_after(&FIRST_BOARD, way), state, "{way:?}");
+    }
+}
+
+/// The states in which the server waits for the user, or has something of his; whether that is said only if he asks;
+/// and what is said.
+static SAID: [(Standing, bool, &str); 16] = [
+    (Standing::Invited, false, "You are invited: join eve\n"),
+    (Standing::Playing, false, "Your turn: roll, or double.\n"),
+    (Standing::Asked, true, "roll was sent: board asks what became of it.\n"),
+    (Standing::Offered, true, "bob has not answered yet.\nIf the game goes on: send roll\n"),
+    (Standing::Taken, true, "double was sent: board asks what became of it.\n"),
+    (Standing::Due, false, "Your turn: roll, or double.\n"),
+    (Standing::Doubled, false, "bob doubles: board, then accept, or reject.\n"),
+    (Standing::Resigned, false, "bob offers to resign: accept, or reject.\nYour turn: roll, or double.\n"),
+    (Standing::Conceded, false, "bob offers to resign: accept, or reject.\n"),
+    (Standing::Owed, false, "bob waits for your answer: accept, or reject.\nYour turn: roll, or double.\n"),
+    (Standing::Unsettled, true, "bob may wait for your answer: accept, or reject.\n"),
+    (Standing::Unanswered, true, "bob may still have to answer your offer.\nIf the game goes on: roll\n"),
+    (Standing::Answered, true, "It was sent: board asks what became of it.\n"),
+    (Standing::Next, false, "The game is over: join goes on, leave saves the match.\n"),
+    (Standing::Joined, true, "bob has not joined yet.\n"),
+    (Standing::Back, true, "If it is your turn: roll, or double.\n"),
+];
+
+#[test]
+fn who_is_waited_for_is_told() {
+    for (state, if_asked, rows) in SAID {
+        let (_, way) = WAYS.into_iter().find(|(of, _)| *of == state).expect("each state has a way");
+        let asks: &[Cue] = if if_asked { &[Cue::Types(b"help"), Cue::Rests] } else { &[Cue::Rests] };
+        assert_ends(plain_settings(), &FIRST_BOARD, &[way, asks].concat(), rows);
+    }
+}
+
+/// After each line in each state: the row of that state, and no double if the server has refused one. How another match
+/// is played is no advice.
+#[test]
+fn what_is_written_is_what_is_advised() {
+    for (_, way) in WAYS {
+        for (line, _) in LINES {
+            let steps = [way, &[Cue::Rests, Cue::Hears(line), Cue::Rests]].concat();
+            let (said, advice) = (advised_after(&steps), advice_after(&FIRST_BOARD, &steps));
+            let rows = said.lines().filter(|row| !row.contains("players ready"));
+            assert!(rows.eq(advice.lines()), "{steps:?}: {said:?} is written, and advised is {advice:?}");
+        }
     }
 }
 
