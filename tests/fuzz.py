@@ -576,8 +576,13 @@ class OutOfTime(Exception):
 class Program:
     """The program that is compared. A run that does not end is seen before the time is over."""
 
-    def __init__(self, path, seconds):
-        self.path, self.longest = path, min(20, seconds / 2)
+    def __init__(self, path, seconds, end):
+        self.path, self.longest, self.end = path, min(20, seconds / 2), end
+
+    def look_at_clock(self):
+        """Raises OutOfTime from the end on. The signal's own is lost if it comes while Python frees an object."""
+        if time.monotonic() >= self.end:
+            raise OutOfTime
 
     def run(self, mode, data):
         """What it prints, its status and what it says; one that does not end has a status that no program has."""
@@ -604,6 +609,7 @@ def smaller(program, mode, data, best):
     while size:
         at = 0
         while at < len(lines):
+            program.look_at_clock()
             fewer = lines[:at] + lines[at + size:]
             outcome = program.outcomes(mode, b'\n'.join(fewer))
             if outcome[1] != outcome[2]:
@@ -640,6 +646,7 @@ def compare(program, rng, seen):
     """Compares until the time is over; an input that differs is returned with its mode and what was made of it."""
     spent = dict.fromkeys(KINDS, 0)
     while True:
+        program.look_at_clock()
         kind = min(spent, key=spent.get)
         make, modes = KINDS[kind]
         start = time.monotonic()
@@ -685,10 +692,11 @@ def summary(seen):
 
 def main():
     seconds = float(sys.argv[2])
-    program = Program(sys.argv[1], seconds)
-    signal.signal(signal.SIGALRM, out_of_time)
     # A second is left for what is printed at the end.
-    signal.setitimer(signal.ITIMER_REAL, max(seconds - 1, seconds / 2))
+    compared = max(seconds - 1, seconds / 2)
+    program = Program(sys.argv[1], seconds, time.monotonic() + compared)
+    signal.signal(signal.SIGALRM, out_of_time)
+    signal.setitimer(signal.ITIMER_REAL, compared)
     seed, seen = int(sys.argv[3]) if len(sys.argv) > 3 else time.time_ns(), collections.Counter()
     print('seed', seed, flush=True)
     try:
