@@ -70,6 +70,7 @@ const KEYS: &[(&str, &str, bool)] = &[
     ("fibs_rules/play.rs", "struct Play {", false),
     ("fibs_position/phase.rs", "enum Phase {", false),
     ("fibs_position/stake.rs", "enum Stake {", false),
+    ("fibs_position/cube.rs", "enum CubeOwner {", false),
     ("fibs_position/direction.rs", "enum Direction {", false),
     ("fibs_position/decision.rs", "enum Decision {", false),
     ("fibs_position/position_fault.rs", "enum PositionFault {", true),

@@ -1,8 +1,9 @@
 //! What a Rust author expects of boards, positions, plays and messages. Written by hand.
 
 use crate::{
-    AllocError, Board, Decision, Direction, Disallowed, FieldFault, Message, Phase, Play, Position, PositionFault,
-    Reading, Side, Step, differs, effect, fibs_messages::print_message, field, read,
+    AllocError, Board, CubeOwner, Decision, Direction, Disallowed, FieldFault, Message, Phase, Play, Position,
+    PositionFault, Reading, Side, Step, differs, effect, fibs_messages::print_message, fibs_position::is_crawford, field,
+    read,
 };
 use std::fmt;
 use std::hash::{Hash, Hasher};
@@ -129,18 +130,11 @@ impl Board {
 
     /// Whose the cube is: who may double next.
     pub fn cube_owner(&self) -> CubeOwner {
-        match (self.may_double(), self.opponent_may_double()) {
-            (true, true) => CubeOwner::Middle,
-            (true, false) => CubeOwner::Player,
-            (false, true) => CubeOwner::Opponent,
-            // who has just doubled with a cube of his own keeps it until that is answered
-            (false, false) if self.was_doubled() && self.cube() > 1 => CubeOwner::Opponent,
-            (false, false) => CubeOwner::Nobody,
-        }
+        CubeOwner::of(self)
     }
 
-    /// Whether the game is that of the Crawford rule, in which nobody doubles: one side alone has one point to go, and
-    /// had more before. It is told by the board: neither side may double, and the cube was not turned.
+    /// Whether the game is that of the Crawford rule, in which nobody doubles, as far as the board shows it: one side
+    /// alone has one point to go, neither may double, the cube shows 1, and the opponent has not just doubled.
     ///
     /// ```
     /// # let line = "board:You:bob:3:2:1:0:-2:0:0:0:0:5:0:3:0:0:0:-5:5:0:0:0:-3:0:-5:0:0:0:0:2:0:1:\
@@ -151,9 +145,7 @@ impl Board {
     /// # Ok::<(), fibs::FieldFault>(())
     /// ```
     pub fn is_crawford(&self) -> bool {
-        let is_near = |score: i32| self.length().is_some_and(|length| length > 1 && score == length - 1);
-        let is_one_near = is_near(self.score()) != is_near(self.opponent_score());
-        is_one_near && self.cube() == 1 && !self.was_doubled() && self.cube_owner() == CubeOwner::Nobody
+        is_crawford(self)
     }
 
     /// Whether the board is one of a game in which the user does not play. [`WatchedBoard`](crate::WatchedBoard) has
@@ -214,19 +206,6 @@ impl Board {
             board.with(n, value).unwrap_or(board)
         })
     }
-}
-
-/// Whose the cube is.
-#[derive(Clone, Copy, Debug, PartialEq, Eq, Hash)]
-pub enum CubeOwner {
-    /// The player's.
-    Player,
-    /// The opponent's.
-    Opponent,
-    /// In the middle: both may double.
-    Middle,
-    /// Nobody may double, as in a match to one point.
-    Nobody,
 }
 
 /// The fields that say the same of one side and of the other.

@@ -2,13 +2,13 @@
 
 ghost use Rattle.std.specs.Prelude.{◌≡◌};
 ghost use Rattle.fibs_fields.specs.StoredBoard.{fields_of};
-ghost use Rattle.fibs_c.specs.BoardDoor.{IsBoardRead, IsPrintedBoard, IsCrawfordTold, IsOverTold, IsOwnerTold, IsDifferenceTold, cube_owner, cube_owner_by, ends_match, has_one_near, has_quiet_cube, is_crawford, is_near, is_opponents, is_quiet, is_won};
+ghost use Rattle.fibs_c.specs.BoardDoor.{IsBoardRead, IsPrintedBoard, IsCrawfordTold, IsOverTold, IsOwnerTold, IsDifferenceTold, ends_match, is_won};
 
 use crate::records::boards::{BoardRecord, put_board};
 use crate::records::status::{DONE, field_fault_status};
 use crate::records::text::{flag, hand_out};
 use fibs_fields::boards::Board;
-use fibs_position::differs;
+use fibs_position::{CubeOwner, differs, is_crawford};
 
 /// The fields of a line's board; or why the line says none, and its first wrong field, counted from 1.
 #[unsafe(no_mangle)]
@@ -72,38 +72,6 @@ pub extern "C" fn fibs_match_over(line: &[u8], over: &mut u8) -> u32
     }
 }
 
-/// Whether the opponent may double next, by his flag, whether he has just doubled, and the cube; the player may not.
-fn is_opponents(other_may: i32, doubled: i32, cube: i32) -> bool
-    ensures { result ≡ is_opponents other_may doubled cube }
-{
-    other_may == 1 || (doubled == 1 && 2 <= cube)
-}
-
-/// Who may double next, by the flags of both, whether the opponent has just doubled, and the cube.
-fn cube_owner_by(may: i32, other_may: i32, doubled: i32, cube: i32) -> u8
-    ensures { result ≡ cube_owner_by may other_may doubled cube }
-{
-    if may == 1 {
-        if other_may == 1 { 3 } else { 1 }
-    } else if is_opponents(other_may, doubled, cube) {
-        2
-    } else {
-        0
-    }
-}
-
-/// Who may double next: 0 nobody, 1 the player, 2 the opponent, 3 both.
-fn cube_owner(board: &Board) -> u8
-    ensures { result ≡ cube_owner (fields_of board.now) }
-{
-    cube_owner_by(
-        board.field(39),
-        board.field(40),
-        board.field(41),
-        board.field(38),
-    )
-}
-
 /// Who may double next on the board of a line: 0 nobody, 1 the player, 2 the opponent, 3 both.
 #[unsafe(no_mangle)]
 pub extern "C" fn fibs_cube_owner(line: &[u8], owner: &mut u8) -> u32
@@ -112,49 +80,10 @@ pub extern "C" fn fibs_cube_owner(line: &[u8], owner: &mut u8) -> u32
     match Board::read(line) {
         Err(wrong) => field_fault_status(wrong.fault),
         Ok(board) => {
-            *owner = cube_owner(&board);
+            *owner = CubeOwner::of(&board).number();
             DONE
         }
     }
-}
-
-/// Whether a side has one point to go in a match of more than one.
-fn is_near(length: i32, score: i32) -> bool
-    ensures { result ≡ is_near length score }
-{
-    2 <= length && (length != 9999 && score == length - 1)
-}
-
-/// Whether just one of two sides has one point to go.
-fn has_one_near(length: i32, own: i32, other: i32) -> bool
-    ensures { result ≡ has_one_near length own other }
-{
-    if is_near(length, own) {
-        !is_near(length, other)
-    } else {
-        is_near(length, other)
-    }
-}
-
-/// Whether nobody may double, and nobody has, by who may double next, the cube, and whether the opponent has doubled.
-fn is_quiet(owner: u8, cube: i32, doubled: i32) -> bool
-    ensures { result ≡ is_quiet owner cube doubled }
-{
-    owner == 0 && (cube == 1 && doubled != 1)
-}
-
-/// Whether nobody may double, and nobody has.
-fn has_quiet_cube(board: &Board) -> bool
-    ensures { result ≡ has_quiet_cube (fields_of board.now) }
-{
-    is_quiet(cube_owner(board), board.field(38), board.field(41))
-}
-
-/// Whether the game is that of the Crawford rule, in which nobody doubles, as far as the board shows it.
-fn is_crawford(board: &Board) -> bool
-    ensures { result ≡ is_crawford (fields_of board.now) }
-{
-    has_quiet_cube(board) && has_one_near(board.field(4), board.field(5), board.field(6))
 }
 
 /// Whether the board of a line is of a game of the Crawford rule.

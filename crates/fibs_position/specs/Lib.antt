@@ -4,6 +4,8 @@ pub mod DirectionOf
 pub mod NumbersOf
 pub mod OwnView
 pub mod GoodBoard
+pub mod CubeOf
+pub mod Crawford
 pub mod Watched
 pub mod GamePart
 pub mod PositionValue

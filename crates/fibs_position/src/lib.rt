@@ -2,6 +2,7 @@
 #![tactic(auto)]
 
 mod board_effect;
+mod crawford;
 mod cube;
 mod decision;
 mod direction;
@@ -19,6 +20,8 @@ mod stake;
 mod watched_board;
 
 pub use board_effect::{effect, is_die};
+pub use crawford::is_crawford;
+pub use cube::CubeOwner;
 pub use decision::Decision;
 pub use direction::Direction;
 pub use disallowed::Disallowed;
