@@ -30,7 +30,7 @@ impl Session {
     }
 
     /// A connection is opened.
-    pub(crate) fn note_open(&mut self) -> Result<CommandText, Refusal>
+    pub(crate) fn begin_connection(&mut self) -> Result<CommandText, Refusal>
         ensures fields { session_of self.new ≡ open_fields (session_of self.old) }
         ensures handed { handed result ≡ open_send (session_of self.old) }
         ensures refusal { refusal_in result ≡ open_refusal_of (session_of self.old) }
@@ -44,7 +44,7 @@ impl Session {
     }
 
     /// The connection is lost.
-    pub(crate) fn note_lose(&mut self) -> Option<Outstanding>
+    pub(crate) fn end_connection(&mut self) -> Option<Outstanding>
         ensures fields { session_of self.new ≡ lose_fields (session_of self.old) }
         ensures result { option_map ask_of result ≡ (session_of self.old).waiting }
     {

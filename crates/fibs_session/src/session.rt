@@ -69,7 +69,7 @@ impl Session {
         ensures refusal { (t : Talk) → SessionStandsAfter (session_of self.old) t → refusal_in result ≡ open_refusal t }
         ensures kept { IsErr result → session_of self.new ≡ session_of self.old }
     {
-        self.note_open()
+        self.begin_connection()
     }
 
     /// The connection is lost: nothing of it is kept. Gives the decision that waited, with the board on which it was
@@ -79,7 +79,7 @@ impl Session {
         ensures unconfirmed { (t : Talk) → SessionStandsAfter (session_of self.old) t →
             option_map ask_of result ≡ unconfirmed_now t }
     {
-        self.note_lose()
+        self.end_connection()
     }
 
     /// Takes a line of the server, without its line end. Offline it changes nothing, and nothing is to be sent.

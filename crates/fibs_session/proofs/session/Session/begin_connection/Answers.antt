@@ -1,5 +1,5 @@
 use Rattle.std.proofs.Common.{[], ◌∷◌, refl, ap, ◌∙◌}
-use Rattle.fibs_session.proofs.session.Session.note_open.Goals as goal
+use Rattle.fibs_session.proofs.session.Session.begin_connection.Goals as goal
 
 pub returns-clause-fields : goal.returns-clause-fields
 returns-clause-fields c = rw c.if-self.false c.fresh.ensures

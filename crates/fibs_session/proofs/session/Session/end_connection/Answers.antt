@@ -1,5 +1,5 @@
 use Rattle.std.proofs.Common.{refl}
-use Rattle.fibs_session.proofs.session.Session.note_lose.Goals as goal
+use Rattle.fibs_session.proofs.session.Session.end_connection.Goals as goal
 
 pub returns-then-self-clause-fields : goal.returns-then-self-clause-fields
 returns-then-self-clause-fields c = rw c.if-self.true refl
