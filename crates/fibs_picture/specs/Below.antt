@@ -51,15 +51,15 @@ match_facts look watched b p = facts_from look.columns (told look watched b p T.
     (map (told look watched b p) (T.Cube ∷ T.Turn ∷ []))
 
 -- who is above
-abbrev pub above : Bool → Half
-above turned = if turned then half.Lower else half.Upper
+abbrev pub half_above : Bool → Half
+half_above turned = if turned then half.Lower else half.Upper
 
 -- and who is below
-abbrev pub under : Bool → Half
-under turned = if turned then half.Upper else half.Lower
+abbrev pub half_below : Bool → Half
+half_below turned = if turned then half.Upper else half.Lower
 
 -- all that is told below a board
 unfoldable pub words_below : Look → Bool → BoardFields → PositionValue → List ℕ
 words_below look watched b p =
-    side_facts look watched b p (above look.is_turned)
-    ++ (match_facts look watched b p ++ side_facts look watched b p (under look.is_turned))
+    side_facts look watched b p (half_above look.is_turned)
+    ++ (match_facts look watched b p ++ side_facts look watched b p (half_below look.is_turned))

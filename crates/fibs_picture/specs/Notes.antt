@@ -29,8 +29,8 @@ unfoldable pub room : ℕ → ℕ
 room columns = if is_below columns then 32 else min columns 79 - 47
 
 -- the words may have their long form, and there is room
-abbrev pub is_long : Look → Bool
-is_long look = look.is_long && nat_le 79 look.columns
+abbrev pub says_long_words : Look → Bool
+says_long_words look = look.is_long && nat_le 79 look.columns
 
 -- a letter before a word
 abbrev pub lettered : ℕ → List ℕ → List (List ℕ)
@@ -76,19 +76,19 @@ whose name = name ++ codes "'s"
 -- who may double next, in so many columns: on a board that is watched by the letter and the name
 unfoldable pub doublers : Look → Bool → BoardFields → ℕ → Bool → Bool → List (List ℕ)
 doublers look watched b left true true =
-    if is_long look then codes "in" ∷ codes "the" ∷ codes "middle" ∷ [] else codes "centred" ∷ []
+    if says_long_words look then codes "in" ∷ codes "the" ∷ codes "middle" ∷ [] else codes "centred" ∷ []
 doublers look watched b left true false =
     if watched then lettered look.own (whose (take (min (left - 4) 14) b.player)) else codes "yours" ∷ []
 doublers look watched b left false true =
     if watched then lettered look.other (whose (take (min (left - 4) 14) b.opponent))
-    else (if is_long look then codes "the" ∷ codes "opponent's" ∷ []
+    else (if says_long_words look then codes "the" ∷ codes "opponent's" ∷ []
     else whose (take (min (left - 2) 24) b.opponent) ∷ [])
 doublers look watched b left false false = codes "no" ∷ codes "doubling" ∷ []
 
 -- the opponent's turn, on a board of the user's own: his name, if it can be told from nobody
 unfoldable pub others_turn : Look → List ℕ → List (List ℕ)
 others_turn look name =
-    if is_long look then codes "the" ∷ codes "opponent's" ∷ codes "turn" ∷ []
+    if says_long_words look then codes "the" ∷ codes "opponent's" ∷ codes "turn" ∷ []
     else (if bytes_eq name (codes "nobody") then codes "the" ∷ codes "opponent's" ∷ codes "turn" ∷ []
     else whose name ∷ codes "turn" ∷ [])
 

@@ -2,7 +2,7 @@
 ghost use Rattle.std.specs.Prelude.{◌≡◌, ◌++◌, OnOk, IfOk, length};
 ghost use Rattle.fibs_fields.specs.StoredBoard.{fields_of};
 ghost use Rattle.fibs_position.specs.PositionValue.{position_value};
-ghost use Rattle.fibs_picture.specs.Below.{is_full, behind, ends_at, told, side_facts, match_facts, above, under, words_below};
+ghost use Rattle.fibs_picture.specs.Below.{is_full, behind, ends_at, told, side_facts, match_facts, half_above, half_below, words_below};
 
 use crate::cell::Half;
 use crate::look::Look;
@@ -143,15 +143,15 @@ fn append_match(
 }
 
 /// Who is above.
-fn above(is_turned: bool) -> Half
-    ensures { result ≡ above is_turned }
+fn half_above(is_turned: bool) -> Half
+    ensures { result ≡ half_above is_turned }
 {
     if is_turned { Half::Lower } else { Half::Upper }
 }
 
 /// Who is below.
-fn under(is_turned: bool) -> Half
-    ensures { result ≡ under is_turned }
+fn half_below(is_turned: bool) -> Half
+    ensures { result ≡ half_below is_turned }
 {
     if is_turned { Half::Upper } else { Half::Lower }
 }
@@ -169,7 +169,7 @@ pub fn append_below(
     ensures { OnOk result (text.new.items ≡ text.old.items
         ++ words_below look.now is_watched (fields_of board.now) (position_value position.now)) }
 {
-    let (upper, lower) = (above(look.is_turned), under(look.is_turned));
+    let (upper, lower) = (half_above(look.is_turned), half_below(look.is_turned));
     append_side(alloc, look, is_watched, board, position, upper, text)?;
     append_match(alloc, look, is_watched, board, position, text)?;
     append_side(alloc, look, is_watched, board, position, lower, text)

@@ -6,7 +6,7 @@ ghost use Rattle.fibs_fields.specs.Board.{field_of};
 ghost use Rattle.fibs_fields.specs.StoredBoard.{fields_of};
 ghost use Rattle.fibs_position.specs.OwnView.{turn, colour};
 ghost use Rattle.fibs_position.specs.PositionValue.{position_value};
-ghost use Rattle.fibs_picture.specs.Notes.{room, is_long, spaced, lettered, labelled, die_mark, die_word, two_dice, race_count, race_word, match_words, whose, doublers, others_turn, turn_words, note};
+ghost use Rattle.fibs_picture.specs.Notes.{room, says_long_words, spaced, lettered, labelled, die_mark, die_word, two_dice, race_count, race_word, match_words, whose, doublers, others_turn, turn_words, note};
 ghost use Rattle.fibs_picture.specs.Picture.{is_one};
 
 use crate::cell::Half;
@@ -65,8 +65,8 @@ fn room(columns: usize) -> usize
 }
 
 /// Whether the words have their long form.
-fn is_long(look: &Look) -> bool
-    ensures { result ≡ is_long look.now }
+fn says_long_words(look: &Look) -> bool
+    ensures { result ≡ says_long_words look.now }
 {
     look.is_long && look.columns >= WIDEST
 }
@@ -245,7 +245,7 @@ fn append_doublers(
 {
     match (own, other) {
         (true, true) => {
-            if is_long(look) {
+            if says_long_words(look) {
                 text.extend_from_slice(b"in the middle")
             } else {
                 text.extend_from_slice(b"centred")
@@ -263,7 +263,7 @@ fn append_doublers(
             if is_watched {
                 let name = first_of(board.opponent().bytes(), left.saturating_sub(4).min(14));
                 append_lettered(look.other, name, text)
-            } else if is_long(look) {
+            } else if says_long_words(look) {
                 text.extend_from_slice(b"the opponent's")
             } else {
                 let name = first_of(board.opponent().bytes(), left.saturating_sub(2).min(24));
@@ -346,7 +346,7 @@ fn append_lettered_turn(letter: u8, name: &[u8], text: &mut Vec<u8>) -> Result<(
 fn append_others_turn(look: &Look, name: &[u8], text: &mut Vec<u8>) -> Result<(), AllocError>
     ensures { OnOk result (text.new.items ≡ text.old.items ++ spaced (others_turn look.now name.now)) }
 {
-    if is_long(look) {
+    if says_long_words(look) {
         text.extend_from_slice(b"the opponent's turn")
     } else if name == b"nobody".as_slice() {
         text.extend_from_slice(b"the opponent's turn")

@@ -8,9 +8,9 @@ use Rattle.std.proofs.lemmas.List.{append_cancel_left, append_cancel_right, leng
 use Rattle.fibs_fields.specs.Board.{BoardFields, field_of}
 use Rattle.fibs_fields.specs.FieldRanges.{FieldRanges}
 use Rattle.fibs_position.specs.PositionValue.{position_of}
-use Rattle.fibs_picture.specs.Below.{is_full, ends_at, facts_behind, told, side_facts, match_facts, above, under, words_below}
+use Rattle.fibs_picture.specs.Below.{is_full, ends_at, facts_behind, told, side_facts, match_facts, half_above, half_below, words_below}
 use Rattle.fibs_picture.specs.Look.{HasLetters}
-use Rattle.fibs_picture.specs.Notes.{is_long, spaced, room, labelled, match_words, whose, doublers, note}
+use Rattle.fibs_picture.specs.Notes.{says_long_words, spaced, room, labelled, match_words, whose, doublers, note}
 use Rattle.fibs_picture.specs.Picture.{is_one}
 use Rattle.fibs_picture.specs.Strip.{is_below}
 use Rattle.fibs_picture.specs.Tells.{IsSeen, AlikeNotes}
@@ -225,14 +225,14 @@ owners-count : (look : Look) (watched : Bool) (b : BoardFields) (left : ℕ) (ow
     → owners_count watched (head (doublers look watched b left own other))
     ≡ length (doublers look watched b left own other)
 unfolding doublers
-owners-count look true b left true true = count-cond (owners_count true) (is_long look)
+owners-count look true b left true true = count-cond (owners_count true) (says_long_words look)
     (codes "in" ∷ codes "the" ∷ codes "middle" ∷ []) (codes "centred" ∷ []) refl refl
-owners-count look false b left true true = count-cond (owners_count false) (is_long look)
+owners-count look false b left true true = count-cond (owners_count false) (says_long_words look)
     (codes "in" ∷ codes "the" ∷ codes "middle" ∷ []) (codes "centred" ∷ []) refl refl
 owners-count look true b left true false = refl
 owners-count look false b left true false = refl
 owners-count look true b left false true = refl
-owners-count look false b left false true = count-cond (owners_count false) (is_long look)
+owners-count look false b left false true = count-cond (owners_count false) (says_long_words look)
     (codes "the" ∷ codes "opponent's" ∷ []) (whose (take (min (left - 2) 24) b.opponent) ∷ []) refl
     (whose-count (take (min (left - 2) 24) b.opponent))
 owners-count look true b left false false = refl
@@ -399,7 +399,8 @@ all-facts look watched a b upper both lower T.Turn = both.1.1.0
 
 -- whoever is above
 sides-facts : (look : Look) (watched : Bool) (a b : BoardFields) (turned : Bool)
-    → SameSide look watched a b (above turned) → SameMatch look watched a b → SameSide look watched a b (under turned)
+    → SameSide look watched a b (half_above turned) → SameMatch look watched a b
+    → SameSide look watched a b (half_below turned)
     → AlikeNotes look watched a b
 sides-facts look watched a b true x both y = all-facts look watched a b y both x
 sides-facts look watched a b false x both y = all-facts look watched a b x both y
@@ -417,14 +418,14 @@ pub below-tells : FieldRanges → (look : Look) → HasLetters look → (watched
 unfolding words_below
 below-tells f look h watched a b sa sb u v e =
     let turned = look.is_turned in
-    let xa = side_facts look watched a (position_of a) (above turned) in
-    let xb = side_facts look watched b (position_of b) (above turned) in
+    let xa = side_facts look watched a (position_of a) (half_above turned) in
+    let xb = side_facts look watched b (position_of b) (half_above turned) in
     let ma = match_facts look watched a (position_of a) in
     let mb = match_facts look watched b (position_of b) in
-    let ya = side_facts look watched a (position_of a) (under turned) in
-    let yb = side_facts look watched b (position_of b) (under turned) in
-    let x = side-tells f look h watched a b sa sb (above turned) (ma ++ (ya ++ u)) (mb ++ (yb ++ v))
+    let ya = side_facts look watched a (position_of a) (half_below turned) in
+    let yb = side_facts look watched b (position_of b) (half_below turned) in
+    let x = side-tells f look h watched a b sa sb (half_above turned) (ma ++ (ya ++ u)) (mb ++ (yb ++ v))
     (sym (three xa ma ya u) ∙ e ∙ three xb mb yb v) in
     let m = match-tells f look h watched a b sa sb (ya ++ u) (yb ++ v) x.1 in
-    let y = side-tells f look h watched a b sa sb (under turned) u v m.1 in
+    let y = side-tells f look h watched a b sa sb (half_below turned) u v m.1 in
     (sides-facts look watched a b turned x.0 m.0 y.0, y.1)

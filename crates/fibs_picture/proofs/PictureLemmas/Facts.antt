@@ -14,7 +14,7 @@ use Rattle.fibs_fields.specs.FieldReading.{natural}
 use Rattle.fibs_picture.specs.Told.{Whose, nobodys, the_players, the_opponents}
 use Rattle.fibs_position.specs.OwnView.{turn}
 use Rattle.fibs_picture.specs.Look.{HasLetters}
-use Rattle.fibs_picture.specs.Notes.{room, is_long, lettered, labelled, two_dice, match_words, whose, doublers, others_turn, turn_words}
+use Rattle.fibs_picture.specs.Notes.{room, says_long_words, lettered, labelled, two_dice, match_words, whose, doublers, others_turn, turn_words}
 use Rattle.fibs_picture.specs.declared.look.Look.{Look}
 use Rattle.fibs_picture.specs.declared.mark.Mark.TheVariants as M
 use Rattle.fibs_picture.proofs.PictureLemmas.Ranges.{Within, number-tells}
@@ -171,17 +171,17 @@ other-letter c d h = grind (arith, nat_tests)
 doublers-read : (look : Look) (b : BoardFields) (left : ℕ) (own other : Bool)
     → own_kind (doublers look false b left own other) ≡ kind own other
 unfolding doublers
-doublers-read look b left true true = kind-cond own_kind (is_long look) _ _ 1 refl refl
+doublers-read look b left true true = kind-cond own_kind (says_long_words look) _ _ 1 refl refl
 doublers-read look b left true false = refl
 doublers-read look b left false true =
-    kind-cond own_kind (is_long look) _ _ 3 refl (whose-kind (take (min (left - 2) 24) b.opponent))
+    kind-cond own_kind (says_long_words look) _ _ 3 refl (whose-kind (take (min (left - 2) 24) b.opponent))
 doublers-read look b left false false = refl
 
 -- also on a watched board
 doublers-watched : (look : Look) → HasLetters look → (b : BoardFields) (left : ℕ) (own other : Bool)
     → watched_kind look.own (doublers look true b left own other) ≡ kind own other
 unfolding doublers
-doublers-watched look h b left true true = kind-cond (watched_kind look.own) (is_long look) _ _ 1 refl refl
+doublers-watched look h b left true true = kind-cond (watched_kind look.own) (says_long_words look) _ _ 1 refl refl
 doublers-watched look h b left true false = rw (same-letter look.own) refl
 doublers-watched look h b left false true = rw (other-letter look.own look.other h.two) refl
 doublers-watched look h b left false false = refl
@@ -272,7 +272,7 @@ turn-read : (look : Look) (b : BoardFields) (none own : Bool)
 unfolding turn_words others_turn
 turn-read look b true own = refl
 turn-read look b false true = refl
-turn-read look b false false = others-read (take (room look.columns - 8) b.opponent) (is_long look) _ refl
+turn-read look b false false = others-read (take (room look.columns - 8) b.opponent) (says_long_words look) _ refl
 
 -- also on a watched board
 turn-watched : (look : Look) → HasLetters look → (b : BoardFields) (none own : Bool)

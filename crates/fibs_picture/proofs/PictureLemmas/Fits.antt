@@ -11,7 +11,7 @@ use Rattle.fibs_position.specs.Phases.{phase_in}
 use Rattle.fibs_position.specs.PositionValue.{PositionValue, position_of}
 use Rattle.fibs_position.specs.declared.phase.Phase.{Phase}
 use Rattle.fibs_position.specs.declared.phase.Phase.TheVariants as phase
-use Rattle.fibs_picture.specs.Below.{is_full, facts_behind, facts_from, told, side_facts, match_facts, above, under, words_below}
+use Rattle.fibs_picture.specs.Below.{is_full, facts_behind, facts_from, told, side_facts, match_facts, half_above, half_below, words_below}
 use Rattle.fibs_picture.specs.Cell.{seen_row}
 use Rattle.fibs_picture.specs.Fits.{Fits, ended, PictureFits}
 use Rattle.fibs_picture.specs.Look.{HasLetters}
@@ -226,10 +226,11 @@ below-fits f look h watched b s least most =
     let side : (x : Half) → IsRows look.columns (side_facts look watched b p x) = λ x.
     group-fits f look h watched b s least most (T.Name x) (T.Score x ∷ T.Off x ∷ T.Pips x ∷ T.Dice x ∷ []) in
     let m = group-fits f look h watched b s least most T.Length (T.Cube ∷ T.Turn ∷ []) in
-    both look.columns (side_facts look watched b p (above look.is_turned))
-    (match_facts look watched b p ++ side_facts look watched b p (under look.is_turned)) (side (above look.is_turned))
-    (both look.columns (match_facts look watched b p) (side_facts look watched b p (under look.is_turned)) m
-    (side (under look.is_turned)))
+    both look.columns (side_facts look watched b p (half_above look.is_turned))
+    (match_facts look watched b p ++ side_facts look watched b p (half_below look.is_turned))
+    (side (half_above look.is_turned))
+    (both look.columns (match_facts look watched b p) (side_facts look watched b p (half_below look.is_turned)) m
+    (side (half_below look.is_turned)))
 
 -- if they stand there
 lower-fits : FieldRanges → (look : Look) → HasLetters look → (watched : Bool) (b : BoardFields) → IsSeen b

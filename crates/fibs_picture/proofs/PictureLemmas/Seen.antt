@@ -13,7 +13,7 @@ use Rattle.fibs_position.specs.Phases.{phase_in}
 use Rattle.fibs_position.specs.PositionValue.{PositionValue, position_of}
 use Rattle.fibs_position.specs.declared.phase.Phase.{Phase}
 use Rattle.fibs_position.specs.declared.phase.Phase.TheVariants as phase
-use Rattle.fibs_picture.specs.Below.{is_full, ends_at, facts_behind, facts_from, told, side_facts, match_facts, above, under, words_below}
+use Rattle.fibs_picture.specs.Below.{is_full, ends_at, facts_behind, facts_from, told, side_facts, match_facts, half_above, half_below, words_below}
 use Rattle.fibs_picture.specs.Cell.{board_row, seen_row}
 use Rattle.fibs_picture.specs.Look.{HasLetters}
 use Rattle.fibs_picture.specs.Marks.{seen, seen_from}
@@ -245,13 +245,14 @@ below-plain : FieldRanges → (look : Look) → HasLetters look → (watched : B
 unfolding words_below
 below-plain f look h watched b s =
     let p = position_of b in
-    let x = side_facts look watched b p (above look.is_turned) in
+    let x = side_facts look watched b p (half_above look.is_turned) in
     let m = match_facts look watched b p in
-    let y = side_facts look watched b p (under look.is_turned) in
+    let y = side_facts look watched b p (half_below look.is_turned) in
     let side : (h' : Half) → plain (side_facts look watched b p h') ≡ true =
     λ h'. group-plain f look h watched b s (T.Name h') (T.Score h' ∷ T.Off h' ∷ T.Pips h' ∷ T.Dice h' ∷ []) in
-    plain-append x (m ++ y) (side (above look.is_turned))
-    (plain-append m y (group-plain f look h watched b s T.Length (T.Cube ∷ T.Turn ∷ [])) (side (under look.is_turned)))
+    plain-append x (m ++ y) (side (half_above look.is_turned))
+    (plain-append m y (group-plain f look h watched b s T.Length (T.Cube ∷ T.Turn ∷ []))
+    (side (half_below look.is_turned)))
 
 -- what can be done
 deed-plain : (p : Phase) (accepts doubles : Bool) → plain (deed p accepts doubles ++ 10 ∷ []) ≡ true

@@ -13,7 +13,7 @@ use Rattle.fibs_position.specs.OwnView.{own_view, turn, colour}
 use Rattle.fibs_position.specs.PositionValue.{position_of}
 use Rattle.fibs_picture.specs.Look.{IsLetter, HasLetters}
 use Rattle.fibs_picture.specs.Marks.{marked}
-use Rattle.fibs_picture.specs.Notes.{room, is_long, lettered, labelled, die_word, two_dice, race_count, race_word, match_words, whose, doublers, others_turn, turn_words, note}
+use Rattle.fibs_picture.specs.Notes.{room, says_long_words, lettered, labelled, die_word, two_dice, race_count, race_word, match_words, whose, doublers, others_turn, turn_words, note}
 use Rattle.fibs_picture.specs.Picture.{own_pips, other_pips, is_one}
 use Rattle.fibs_picture.specs.Strip.{is_below}
 use Rattle.fibs_picture.specs.Tells.{IsSeen}
@@ -118,7 +118,7 @@ pub doublers-row : (look : Look) → HasLetters look → (watched : Bool) (b : B
     → solid b.opponent ≡ true → (left : ℕ) (own other : Bool) → is_row (doublers look watched b left own other) ≡ true
 unfolding doublers
 doublers-row look h watched b p o left true true =
-    row-cond (is_long look) (codes "in" ∷ codes "the" ∷ codes "middle" ∷ []) (codes "centred" ∷ []) refl refl
+    row-cond (says_long_words look) (codes "in" ∷ codes "the" ∷ codes "middle" ∷ []) (codes "centred" ∷ []) refl refl
 doublers-row look h watched b p o left true false =
     let name = take (min (left - 4) 14) b.player in
     row-cond watched (lettered look.own (whose name)) (codes "yours" ∷ [])
@@ -127,9 +127,9 @@ doublers-row look h watched b p o left false true =
     let name = take (min (left - 4) 14) b.opponent in
     let short = take (min (left - 2) 24) b.opponent in
     let long = codes "the" ∷ codes "opponent's" ∷ [] in
-    row-cond watched (lettered look.other (whose name)) (cond (is_long look) long (whose short ∷ []))
+    row-cond watched (lettered look.other (whose name)) (cond (says_long_words look) long (whose short ∷ []))
     (lettered-row look.other (whose name) h.other (whose-solid name (solid-take (min (left - 4) 14) b.opponent o)))
-    (row-cond (is_long look) long (whose short ∷ []) refl (whose-solid short (solid-take (min (left - 2) 24)
+    (row-cond (says_long_words look) long (whose short ∷ []) refl (whose-solid short (solid-take (min (left - 2) 24)
     b.opponent o)))
 doublers-row look h watched b p o left false false = refl
 
@@ -144,7 +144,7 @@ unfolding others_turn
 others-row look name k =
     let long = codes "the" ∷ codes "opponent's" ∷ codes "turn" ∷ [] in
     let short = whose name ∷ codes "turn" ∷ [] in
-    row-cond (is_long look) long (cond (bytes_eq name (codes "nobody")) long short) refl
+    row-cond (says_long_words look) long (cond (bytes_eq name (codes "nobody")) long short) refl
     (row-cond (bytes_eq name (codes "nobody")) long short refl (rw (whose-solid name k) refl))
 
 -- whose turn it is

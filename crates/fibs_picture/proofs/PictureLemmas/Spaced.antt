@@ -1,7 +1,7 @@
 -- How rows of words are written.
 use Rattle.std.proofs.Common.{◌≡◌, ◌+◌, ◌-◌, ◌==◌, ◌&&◌, ◌++◌, ℕ, Bool, true, false, cond, codes, List, [], ◌∷◌, refl, ◌∙◌, ap, append_assoc}
 use Rattle.fibs_fields.specs.Board.{BoardFields}
-use Rattle.fibs_picture.specs.Notes.{is_long, spaced, labelled, two_dice, die_word, doublers}
+use Rattle.fibs_picture.specs.Notes.{says_long_words, spaced, labelled, two_dice, die_word, doublers}
 use Rattle.fibs_picture.specs.declared.look.Look.{Look}
 use Rattle.fibs_picture.specs.declared.mark.Mark.{Mark}
 
@@ -36,9 +36,10 @@ race_spaced false w x y = refl
 pub doublers-some : (look : Look) (watched : Bool) (b : BoardFields) (left : ℕ) (own other : Bool)
     → some (doublers look watched b left own other) ≡ true
 unfolding doublers
-doublers-some look watched b left true true = some-cond (is_long look) _ _ refl refl
+doublers-some look watched b left true true = some-cond (says_long_words look) _ _ refl refl
 doublers-some look watched b left true false = some-cond watched _ _ refl refl
-doublers-some look watched b left false true = some-cond watched _ _ refl (some-cond (is_long look) _ _ refl refl)
+doublers-some look watched b left false true =
+    some-cond watched _ _ refl (some-cond (says_long_words look) _ _ refl refl)
 doublers-some look watched b left false false = refl
 
 -- a cube before who may double

@@ -24,7 +24,7 @@ use Rattle.fibs_picture.specs.Cell.{label, floor, place_of, ink_at, byte_at, see
 use Rattle.fibs_picture.specs.Ink.{stack, byte_of, IsSmall}
 use Rattle.fibs_picture.specs.Look.{IsLetter, HasLetters}
 use Rattle.fibs_position.specs.NumbersOf.{counted}
-use Rattle.fibs_picture.specs.Notes.{is_long, spaced, room, lettered, labelled, two_dice, race_count, race_word, match_words, whose, doublers, others_turn, turn_words, note}
+use Rattle.fibs_picture.specs.Notes.{says_long_words, spaced, room, lettered, labelled, two_dice, race_count, race_word, match_words, whose, doublers, others_turn, turn_words, note}
 use Rattle.fibs_picture.specs.Picture.{own_pips, other_pips, is_one}
 use Rattle.fibs_picture.specs.Strip.{strip_at, is_below, is_left_out, board_width, IsWithin}
 use Rattle.fibs_picture.specs.Tells.{IsSeen}
@@ -407,7 +407,7 @@ room-wide : (columns : ℕ) (under : Bool) → is_below columns ≡ under → 79
 room-wide columns true h wide = omega arith
 room-wide columns false h wide = let most : 79 ≤ min columns 79 = le-min wide (lit≤ tt) in omega (arith, most)
 
-long-room : (look : Look) → is_long look ≡ true → 32 ≤ room look.columns
+long-room : (look : Look) → says_long_words look ≡ true → 32 ≤ room look.columns
 unfolding room
 long-room look h = room-wide look.columns (is_below look.columns) refl (long-wide look.is_long look.columns h)
 
@@ -435,20 +435,22 @@ watched-width false letter left name xs k h = h
 
 -- each of them
 doublers-width : (look : Look) (watched : Bool) (b : BoardFields) (left : ℕ) (own other : Bool)
-    → (is_long look ≡ true → 18 ≤ left) → 11 ≤ left → length (spaced (doublers look watched b left own other)) ≤ left
+    → (says_long_words look ≡ true → 18 ≤ left) → 11 ≤ left
+    → length (spaced (doublers look watched b left own other)) ≤ left
 unfolding doublers
-doublers-width look watched b left true true h k = middle-width (is_long look) left h k
+doublers-width look watched b left true true h k = middle-width (says_long_words look) left h k
 doublers-width look watched b left true false h k =
     watched-width watched look.own left b.player (codes "yours" ∷ []) k (omega (arith, k))
 doublers-width look watched b left false true h k =
     watched-width watched look.other left b.opponent
-    (cond (is_long look) (codes "the" ∷ codes "opponent's" ∷ []) (whose (take (min (left - 2) 24) b.opponent) ∷ [])) k
-    (others-width (is_long look) left b.opponent h k)
+    (cond (says_long_words look) (codes "the" ∷ codes "opponent's" ∷ [])
+    (whose (take (min (left - 2) 24) b.opponent) ∷ [])) k
+    (others-width (says_long_words look) left b.opponent h k)
 doublers-width look watched b left false false h k = omega (arith, k)
 
 -- the cube
 cube-width : (n : ℕ) (digits : List ℕ) (look : Look) (watched : Bool) (b : BoardFields) (own other : Bool)
-    → length digits ≤ 7 → 25 ≤ n → (is_long look ≡ true → 32 ≤ n)
+    → length digits ≤ 7 → 25 ≤ n → (says_long_words look ≡ true → 32 ≤ n)
     → length (spaced (codes "cube" ∷ (digits ++ codes ",")
     ∷ doublers look watched b ((n - 7) - length digits) own other)) ≤ n
 cube-width n digits look watched b own other few k wide =
@@ -492,7 +494,7 @@ others-turn-width look n name h =
     let long = codes "the" ∷ codes "opponent's" ∷ codes "turn" ∷ [] in
     let short = whose (take (n - 8) name) ∷ codes "turn" ∷ [] in
     let whole : length (spaced long) ≤ n = omega (arith, h) in
-    width-cond (is_long look) long (cond (bytes_eq (take (n - 8) name) (codes "nobody")) long short) n whole
+    width-cond (says_long_words look) long (cond (bytes_eq (take (n - 8) name) (codes "nobody")) long short) n whole
     (width-cond (bytes_eq (take (n - 8) name) (codes "nobody")) long short n whole
     (named-turn-width n name (omega (arith, h))))
 
