@@ -1,33 +1,13 @@
 -- Why the user may not double on a board (rules of backgammon; FIBS board style 3).
-use Rattle.std.specs.Prelude.{◌≡◌, ◌⊎◌, ◌++◌, ◌&&◌, ℕ, ℤ, pos, ◌-ℤ◌, int_le, List, codes, Bool, not, true, false, if◌then◌else◌}
+use Rattle.std.specs.Prelude.{◌≡◌, ◌⊎◌, ◌++◌, ◌&&◌, ℕ, ℤ, pos, int_le, List, codes, Bool, not, true, false}
 use Rattle.std.specs.Ordering.{int_eq}
 use Rattle.fibs_fields.specs.Board.{BoardFields, field_of}
+use Rattle.fibs_position.specs.Crawford.{is_crawford}
 use Rattle.fibs_position.specs.Phases.{phase_of}
 use Rattle.fibs_position.specs.declared.phase.Phase.{Phase}
 use Rattle.fibs_position.specs.declared.phase.Phase.TheVariants as P
 use Rattle.fibs_advice.specs.declared.doubling.NoDouble.{NoDouble}
 use Rattle.fibs_advice.specs.declared.doubling.NoDouble.TheVariants as N
-
--- a side has one point to go in a match of more than one, which is not unlimited: 9999 is no length
-abbrev pub is_near : ℤ → ℤ → Bool
-is_near length score = int_le (pos 2) length && (not (int_eq length (pos 9999)) && int_eq score (length -ℤ pos 1))
-
--- just one of two sides is so
-abbrev pub has_one_near : ℤ → ℤ → ℤ → Bool
-has_one_near length own other = if is_near length own then not (is_near length other) else is_near length other
-
--- neither side may double, by their flags, and nobody has
-abbrev pub is_quiet : ℤ → ℤ → ℤ → Bool
-is_quiet may other_may cube = int_eq may (pos 0) && (int_eq other_may (pos 0) && int_eq cube (pos 1))
-
--- the same of a board
-abbrev pub has_quiet_cube : BoardFields → Bool
-has_quiet_cube b = is_quiet (field_of b 39) (field_of b 40) (field_of b 38)
-
--- the game is that of the Crawford rule, as far as a board shows it: neither side may double, nobody has, and just one
--- has one point to go
-abbrev pub is_crawford : BoardFields → Bool
-is_crawford b = has_quiet_cube b && has_one_near (field_of b 4) (field_of b 5) (field_of b 6)
 
 -- the cube is the opponent's, by who may double
 abbrev pub is_his : ℤ → ℤ → ℤ → Bool

@@ -7,6 +7,7 @@ use Rattle.fibs_fields.specs.Split.{before}
 use Rattle.arrayvec.specs.ArrayVec.{ArrayVec, array_vec_len}
 use Rattle.fibs_events.specs.declared.told.Told.{Told}
 use Rattle.fibs_events.specs.declared.told.Told.TheVariants as T
+use Rattle.fibs_position.specs.Phases.{phase_of}
 use Rattle.fibs_position.specs.declared.phase.Phase.{Phase}
 use Rattle.fibs_position.specs.declared.phase.Phase.TheVariants as P
 use Rattle.fibs_advice.specs.Standings.{has_offer, is_in_match, owes_answer}
@@ -21,6 +22,8 @@ use Rattle.fibs_advice.specs.declared.situation.Situation.{Situation}
 use Rattle.fibs_advice.specs.declared.situation.Turn.{Turn}
 use Rattle.fibs_advice.specs.declared.situation.Waiting.{Waiting}
 use Rattle.fibs_advice.specs.declared.situation.Waiting.TheVariants as W
+use Rattle.fibs_advice.specs.declared.standing.Shown.{Shown}
+use Rattle.fibs_advice.specs.declared.standing.Shown.TheVariants as H
 use Rattle.fibs_advice.specs.declared.standing.Standing.{Standing}
 use Rattle.fibs_advice.specs.declared.standing.Standing.TheVariants as S
 
@@ -31,6 +34,20 @@ is_won length own other = not (int_eq length (pos 9999)) && (int_le length own |
 -- the match of a board is over
 abbrev pub is_match_over : BoardFields → Bool
 is_match_over b = is_won (field_of b 4) (field_of b 5) (field_of b 6)
+
+-- what a board says to who waits, by its phase, whether its match is over, and which decision waits
+abbrev pub shown_of : Phase → Bool → Waiting → Shown
+shown_of P.Over true waiting = H.MatchOver
+shown_of P.Over false waiting = H.GameOver
+shown_of P.AnswerDouble over W.Nothing = H.Double
+shown_of P.AnswerDouble over waiting = H.DoubleStands
+shown_of phase over W.Nothing = H.Plain
+shown_of phase over W.Offer = H.OfferStands
+shown_of phase over W.Other = H.Stands
+
+-- the same of a board
+abbrev pub shown_on : BoardFields → Waiting → Shown
+shown_on b waiting = shown_of (phase_of b) (is_match_over b) waiting
 
 -- no name
 abbrev pub no_name : ArrayVec ℕ

@@ -4,13 +4,11 @@ ghost use Rattle.std.specs.Ordering.{int_eq};
 ghost use Rattle.fibs_fields.specs.Board.{field_of};
 ghost use Rattle.fibs_fields.specs.StoredBoard.{fields_of};
 ghost use Rattle.fibs_position.specs.GameOf.{game_of};
-ghost use Rattle.fibs_advice.specs.Doubling.{AllowsDouble, has_one_near, has_quiet_cube, holds_of, is_crawford, is_his, is_near, is_quiet, no_double_said};
+ghost use Rattle.fibs_advice.specs.Doubling.{AllowsDouble, holds_of, is_his, no_double_said};
 
 use fibs_fields::boards::Board;
-use fibs_fields::boards::fields::{
-    CUBE, MATCH_LENGTH, MAY_DOUBLE, OTHER_MAY_DOUBLE, OTHER_SCORE, OWN_SCORE, UNLIMITED,
-};
-use fibs_position::{GameBoard, Phase};
+use fibs_fields::boards::fields::{CUBE, MATCH_LENGTH, MAY_DOUBLE, OTHER_MAY_DOUBLE};
+use fibs_position::{GameBoard, Phase, is_crawford};
 
 /// The most that the cube may show if it is turned.
 const MOST_TURNED: i32 = 524_288;
@@ -36,55 +34,6 @@ pub enum NoDouble {
     Highest,
     /// The board does not say why.
     Unsaid,
-}
-
-/// Whether a side has one point to go in a match of more than one.
-fn is_near(length: i32, score: i32) -> bool
-    ensures { result ≡ is_near length score }
-{
-    2 <= length && (length != UNLIMITED && score == length - 1)
-}
-
-/// Whether just one of two sides has one point to go.
-fn has_one_near(length: i32, own: i32, other: i32) -> bool
-    ensures { result ≡ has_one_near length own other }
-{
-    if is_near(length, own) {
-        !is_near(length, other)
-    } else {
-        is_near(length, other)
-    }
-}
-
-/// Whether neither side may double, and nobody has.
-fn is_quiet(may: i32, other_may: i32, cube: i32) -> bool
-    ensures { result ≡ is_quiet may other_may cube }
-{
-    may == 0 && (other_may == 0 && cube == 1)
-}
-
-/// The same of a board.
-fn has_quiet_cube(board: &Board) -> bool
-    ensures { result ≡ has_quiet_cube (fields_of board.now) }
-{
-    is_quiet(
-        board.field(MAY_DOUBLE),
-        board.field(OTHER_MAY_DOUBLE),
-        board.field(CUBE),
-    )
-}
-
-/// Whether the game is that of the Crawford rule, as far as the board shows it: neither side may double, nobody has,
-/// and just one has one point to go.
-fn is_crawford(board: &Board) -> bool
-    ensures { result ≡ is_crawford (fields_of board.now) }
-{
-    has_quiet_cube(board)
-        && has_one_near(
-            board.field(MATCH_LENGTH),
-            board.field(OWN_SCORE),
-            board.field(OTHER_SCORE),
-        )
 }
 
 /// Whether the match has one point.

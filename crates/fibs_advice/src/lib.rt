@@ -6,7 +6,7 @@ pub mod advised;
 mod changes;
 pub mod doubling;
 pub mod hits;
-mod match_state;
+pub mod match_state;
 pub mod moved;
 pub mod offers;
 pub mod passing;

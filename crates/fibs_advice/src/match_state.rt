@@ -12,7 +12,7 @@ use fibs_fields::boards::fields::{MATCH_LENGTH, OTHER_SCORE, OWN_SCORE, UNLIMITE
 const TURN: &[u8] = b"turn: ";
 
 /// Whether a board says that the match is over: a player has the points of its length.
-pub(crate) fn is_match_over(board: &Board) -> bool
+pub fn is_match_over(board: &Board) -> bool
     ensures { result ≡ is_match_over (fields_of board.now) }
 {
     is_won(

@@ -4,7 +4,7 @@ ghost use Rattle.std.specs.Prelude.{◌≡◌, ◌≢◌, ◌≤◌, ◌↔◌, 
 ghost use Rattle.arrayvec.specs.ArrayVec.{array_vec_len};
 ghost use Rattle.fibs_position.specs.GameOf.{game_of};
 ghost use Rattle.fibs_position.specs.Phases.{phase_of};
-ghost use Rattle.fibs_advice.specs.Situations.{GivesNoTurn, IsNewOpponent, KeepsName, NamedAlone, SaysTurnOf, denies_another, game_after, goes_on, hides_turn, inviter_of, kept_of, left_by, left_told, met, new_game, new_turn, no_name, open_offer, opened_with, opponent_of, tells_turn, turn_noted, waiting_after};
+ghost use Rattle.fibs_advice.specs.Situations.{GivesNoTurn, IsNewOpponent, KeepsName, NamedAlone, SaysTurnOf, denies_another, game_after, goes_on, hides_turn, inviter_of, kept_of, left_by, left_told, met, new_game, new_turn, no_name, open_offer, opened_with, opponent_of, shown_on, tells_turn, turn_noted, waiting_after};
 ghost use Rattle.fibs_advice.specs.Standings.{after_confirmed, after_not_invited, is_called, is_owed, is_undoubled};
 
 mod lines;
@@ -658,7 +658,8 @@ impl Situation {
 
     /// What a board says to who waits.
     fn shown_by(&self, game: &GameBoard) -> Shown
-        ensures { goes_on (phase_of (game_of game.now)) ≡ true → is_undoubled result ≡ true }
+        ensures shown { result ≡ shown_on (game_of game.now) self.now.waiting }
+        ensures undoubled { goes_on (phase_of (game_of game.now)) ≡ true → is_undoubled result ≡ true }
     {
         match (game.phase(), self.waiting) {
             (Phase::Over, _) if is_match_over(game.board()) => Shown::MatchOver,
@@ -690,7 +691,6 @@ impl Situation {
         let shown = self.shown_by(game);
         self.wait_for(self.standing.after_board(shown, self.asks_board()));
         self.asked = BoardAsked::Nothing;
-        // what the server says of it, if it is the user's
         self.opponent.game.turn.shown = match game.phase() {
             Phase::RollOrDouble => Some(Told::ToRoll),
             Phase::Move => Some(Told::ToMove),

@@ -24,6 +24,11 @@ fn a_double_is_refused_with_a_reason_that_holds() {
         (board("1:0:0", -1, "1:0:0"), "In a match to 1 nobody doubles. [7 NotYours]"),
         (board("3:2:0", 1, "1:0:0"), "This is the Crawford game: nobody doubles in it. [8 WrongKind]"),
         (board("3:0:2", 1, "1:0:0"), "This is the Crawford game: nobody doubles in it. [8 WrongKind]"),
+        // he has doubled, so it is not that game, though one side alone lacks a point
+        (
+            board("3:2:0", -1, "1:0:0").replace(":1:0:0:0:1:-1:", ":1:0:0:1:1:-1:"),
+            "You are offered a double yourself. [8 WrongKind]",
+        ),
         (board("3:2:2", 1, "1:0:0"), "By this board you may not double. [8 WrongKind]"),
         (board("9999:9998:0", 1, "1:0:0"), "By this board you may not double. [8 WrongKind]"),
         (board("3:2:0", -1, "1:1:1"), "It is your opponent's turn. [7 NotYours]"),

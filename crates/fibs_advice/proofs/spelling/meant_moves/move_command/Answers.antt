@@ -6,7 +6,7 @@ use Rattle.fibs_rules.specs.PlayValue.{hops_of}
 use Rattle.fibs_session.specs.Typing.{way_now}
 use Rattle.fibs_advice.specs.Spelling.{steps_shown}
 use Rattle.fibs_advice.proofs.SpelledLemmas.{move_shown}
-use Rattle.fibs_advice.proofs.spelling.words.move_command.Goals as goal
+use Rattle.fibs_advice.proofs.spelling.meant_moves.move_command.Goals as goal
 
 pub returns-in-Some : goal.returns-in-Some
 returns-in-Some c = λ t stands. move_shown t (way_now c.args.numbers t) c.args.line.now _ c.in-Some.play
