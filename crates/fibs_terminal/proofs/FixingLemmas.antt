@@ -2,12 +2,34 @@
 use Rattle.std.proofs.Common.{◌≡◌, ◌⊎◌, ◌<◌, ◌+◌, ℕ, suc, Bool, true, false, not, cond, List, codes, Some, None, refl, ap, ◌∙◌, inl, inr, arith}
 use Rattle.std.specs.Prelude.{nat_lt}
 use Rattle.std.proofs.lemmas.Bool.Decides.{nat_tests}
-use Rattle.fibs_terminal.specs.Fixing.{AreFew, FixTurnsOff, TurnsAllOff, TurnsOff, count_on, first_off, one_if, sent_line, turn_of}
+use Rattle.fibs_terminal.specs.Fixing.{AreFew, FixTurnsOff, TurnsAllOff, TurnsOff, after_typed, count_on, first_off, is_asked, one_if, sent_line, turn_of}
 use Rattle.fibs_terminal.specs.Toggles.{after_line as toggled_by, after_sent, flipped, is_on}
 use Rattle.fibs_terminal.specs.declared.fixing.FixLine.{FixLine}
 use Rattle.fibs_terminal.specs.declared.fixing.FixLine.TheVariants as L
+use Rattle.fibs_terminal.specs.declared.fixing.Step.{Step}
+use Rattle.fibs_terminal.specs.declared.fixing.Step.TheVariants as S
 use Rattle.fibs_terminal.specs.declared.toggles.Toggle.{Toggle}
 use Rattle.fibs_terminal.specs.declared.toggles.Toggles.{Toggles}
+
+-- no line but `bye` leaves the question open
+pub asked_by_bye : (step : Step) (bye asks : Bool) → bye ≡ false → is_asked (after_typed step bye asks) ≡ false
+asked_by_bye S.Nothing false asks e = refl
+asked_by_bye S.Toggles false asks e = refl
+asked_by_bye S.Leaves false asks e = refl
+asked_by_bye S.Asked false asks e = refl
+asked_by_bye S.Opens false asks e = refl
+asked_by_bye step true asks e = absurd cc
+
+-- nor does one that is not only answered
+pub asked_if_asked : (step : Step) (bye asks : Bool) → asks ≡ false → is_asked (after_typed step bye asks) ≡ false
+asked_if_asked S.Nothing bye false e = refl
+asked_if_asked S.Toggles bye false e = refl
+asked_if_asked S.Leaves true false e = refl
+asked_if_asked S.Leaves false false e = refl
+asked_if_asked S.Asked true false e = refl
+asked_if_asked S.Asked false false e = refl
+asked_if_asked S.Opens bye false e = refl
+asked_if_asked step bye true e = absurd cc
 
 -- a line that is counted changes the setting
 sent_changes : (t : Toggle) → t.unanswered < 255 → is_on (after_sent t) ≡ not (is_on t)

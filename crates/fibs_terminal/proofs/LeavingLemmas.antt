@@ -20,7 +20,7 @@ use Rattle.fibs_advice.specs.Trials.{tried}
 use Rattle.fibs_advice.specs.declared.standing.Standing.{Standing}
 use Rattle.fibs_advice.specs.declared.trial.Trial.{Trial}
 use Rattle.fibs_terminal.specs.Asking.{AsksInBounds, GoesOnAs, GoesOut, ShownGoesOn, TakesPlay}
-use Rattle.fibs_terminal.specs.Leaving.{asked_first, is_again, leave_of}
+use Rattle.fibs_terminal.specs.Leaving.{asked_first, is_again, is_bye, leave_of}
 use Rattle.fibs_terminal.specs.Sending.{DecidesIf}
 use Rattle.fibs_terminal.specs.Trying.{SendsTried}
 use Rattle.fibs_terminal.specs.declared.leaving.Leave.{Leave}
@@ -190,3 +190,17 @@ pub never_quit : (numbers : Numbers) (t : Talk) (line : List ℕ) → line ≡ c
     → true ≡ is_command (typed_by numbers t line) → ⊥
 never_quit numbers t line same known = false≢true
     (sym (known ∙ ap (λ text. is_command (typed_by numbers t text)) same ∙ quit_is_none (way_now numbers t)))
+
+-- who is asked about a word has typed it
+typed_it : (b : Bool) (now : Option Leave) (word : Leave) → cond b now None ≡ Some word → now ≡ Some word
+typed_it true now word e = e
+typed_it false now word e = absurd cc
+
+-- of a word that is not `bye` the question of `fix` is over
+pub asked_bye : (is_on : Bool) (before now : Option Leave) (word : Leave) (x : Bool)
+    → asked_first is_on before now ≡ Some word → (is_bye now ≡ false → x ≡ false) → x ≡ true
+    → Some word ≡ Some L.Bye
+asked_bye is_on before now L.Bye x e over is = refl
+asked_bye is_on before now L.Quit x e over is =
+    let same : now ≡ Some L.Quit = typed_it (is_on && not (is_again before now)) now L.Quit e in
+    let shut : x ≡ false = over (ap is_bye same) in absurd (false≢true (sym shut ∙ is))

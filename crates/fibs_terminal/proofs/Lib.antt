@@ -12,6 +12,7 @@ pub mod TypedMoveLemmas
 pub mod FittingLemmas
 pub mod FixingLemmas
 pub mod RecordingLemmas
+pub mod ReportedLemmas
 pub mod RespellingLemmas
 pub mod SendingLemmas
 pub mod KeptListLemmas

@@ -13,7 +13,7 @@ use Rattle.fibs_advice.specs.declared.advised.Advice.{Advice}
 use Rattle.fibs_advice.specs.declared.situation.Situation.{Situation}
 use Rattle.fibs_advice.specs.declared.trial.Trial.{Trial}
 use Rattle.fibs_terminal.specs.Drawings.{Draws, is_plain}
-use Rattle.fibs_terminal.specs.GoingOn.{own_columns}
+use Rattle.fibs_terminal.specs.OwnRows.{own_columns}
 use Rattle.fibs_terminal.specs.Rematch.{SaysRematch}
 use Rattle.fibs_picture.specs.InWords.Rows.{Says}
 use Rattle.fibs_terminal.specs.Resting.{Rests, SaysRow, has_told, row_of}

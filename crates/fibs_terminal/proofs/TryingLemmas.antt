@@ -14,7 +14,7 @@ use Rattle.fibs_session.specs.Calls.Standing.{ClientValue, StandsAfter}
 use Rattle.fibs_session.specs.Typing.{typed_as, typed_by, typed_in, is_command, order_in, shown_direction, way_now}
 use Rattle.fibs_wording.specs.declared.environment.settings.Settings.{Settings}
 use Rattle.fibs_terminal.specs.Drawings.{Draws, is_plain}
-use Rattle.fibs_terminal.specs.GoingOn.{own_columns}
+use Rattle.fibs_terminal.specs.OwnRows.{own_columns}
 use Rattle.fibs_connect.specs.declared.wish.Wish.{Wish}
 use Rattle.fibs_connect.specs.declared.wish.Wish.TheVariants.{Say}
 use Rattle.fibs_advice.specs.Leads.{LeadsTo}

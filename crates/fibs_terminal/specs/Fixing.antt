@@ -66,7 +66,21 @@ after_line step automove greedy plays = step
 -- the connection has ended: it is opened again only after that `bye`, and not if it is opened again otherwise
 abbrev pub after_end : Step → Bool → Step
 after_end S.Leaves false = S.Opens
+after_end S.Asked false = S.Opens
 after_end step otherwise = S.Nothing
+
+-- where it is after a line of the user, by whether that asks for `bye`, and whether it was only answered by the
+-- question if he leaves his match: after that question each other line ends it
+abbrev pub after_typed : Step → Bool → Bool → Step
+after_typed S.Leaves true true = S.Asked
+after_typed S.Asked true false = S.Leaves
+after_typed S.Asked false asks = S.Nothing
+after_typed step bye asks = step
+
+-- the `bye` that it typed was only answered, and the user has typed nothing since
+abbrev pub is_asked : Step → Bool
+is_asked S.Asked = true
+is_asked step = false
 
 -- the client takes no decision before the next login, since the server plays for the user: so it refuses to roll
 abbrev pub plays_itself : Option Refusal → Bool

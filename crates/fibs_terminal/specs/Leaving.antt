@@ -73,6 +73,11 @@ is_again (Some L.Quit) (Some L.Quit) = true
 is_again (Some L.Bye) (Some L.Bye) = true
 is_again before now = false
 
+-- a line takes leave by `bye`
+abbrev pub is_bye : Option Leave → Bool
+is_bye (Some L.Bye) = true
+is_bye leave = false
+
 -- about which word he is asked now
 abbrev pub asked_first : Bool → Option Leave → Option Leave → Option Leave
 asked_first is_on before now = cond (is_on && not (is_again before now)) now None

@@ -14,7 +14,7 @@ pub mod Endings
 pub mod Greetings
 pub mod Leaving
 pub mod LeftOut
-pub mod GoingOn
+pub mod OwnRows
 pub mod Listed
 pub mod Grown
 pub mod HeardMessages
@@ -28,6 +28,7 @@ pub mod Reasons
 pub mod Recording
 pub mod Rematch
 pub mod Respelling
+pub mod Reported
 pub mod Resting
 pub mod Retold
 pub mod Saved

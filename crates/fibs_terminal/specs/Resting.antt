@@ -14,7 +14,7 @@ use Rattle.fibs_advice.specs.declared.row.Row.TheVariants as R
 use Rattle.fibs_advice.specs.declared.situation.Situation.{Situation}
 use Rattle.fibs_wording.specs.declared.environment.settings.Settings.{Settings}
 use Rattle.fibs_picture.specs.InWords.Rows.{Says}
-use Rattle.fibs_terminal.specs.GoingOn.{own_columns}
+use Rattle.fibs_terminal.specs.OwnRows.{own_columns}
 use Rattle.fibs_terminal.specs.Rematch.{SaysRematch}
 use Rattle.fibs_terminal.specs.Sent.{ShowsSent}
 use Rattle.fibs_terminal.specs.declared.memory.Memory.{Memory}

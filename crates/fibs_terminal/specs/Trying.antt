@@ -14,7 +14,7 @@ use Rattle.fibs_connect.specs.Wishes.{typed_limit}
 use Rattle.fibs_wording.specs.declared.environment.settings.Settings.{Settings}
 use Rattle.fibs_picture.specs.InWords.Rows.{Says}
 use Rattle.fibs_terminal.specs.Drawings.{Draws, is_plain}
-use Rattle.fibs_terminal.specs.GoingOn.{own_columns}
+use Rattle.fibs_terminal.specs.OwnRows.{own_columns}
 use Rattle.fibs_connect.specs.declared.wish.Wish.{Wish}
 use Rattle.fibs_connect.specs.declared.wish.Wish.TheVariants.{Say, Answered}
 use Rattle.fibs_advice.specs.Leads.{LeadsTo}

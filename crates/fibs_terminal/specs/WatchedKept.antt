@@ -8,7 +8,7 @@ use Rattle.fibs_position.specs.declared.watched_board.WatchedBoard.{WatchedBoard
 use Rattle.fibs_picture.specs.InWords.Rows.{Says}
 use Rattle.fibs_picture.specs.declared.in_words.told.Told.TheVariants as T
 use Rattle.fibs_wording.specs.declared.environment.settings.Settings.{Settings}
-use Rattle.fibs_terminal.specs.GoingOn.{own_columns}
+use Rattle.fibs_terminal.specs.OwnRows.{own_columns}
 use Rattle.fibs_terminal.specs.declared.drawing.watching.Watching.{Watching}
 use Rattle.fibs_terminal.specs.declared.drawing.watching.Wanted.{Wanted}
 use Rattle.fibs_terminal.specs.declared.drawing.watching.Wanted.TheVariants as W

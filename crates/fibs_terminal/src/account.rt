@@ -8,7 +8,7 @@ ghost use Rattle.fibs_advice.specs.Standings.{is_in_match};
 ghost use Rattle.fibs_wording.specs.SavedLists.{HearsList, Keeps};
 ghost use Rattle.fibs_terminal.specs.Saved.{AfterDenial, AfterTold, has_saved, length_of, match_on};
 
-use crate::going_on::fit_from;
+use crate::own_rows::fit_from;
 use fibs_advice::situation::is_same;
 use fibs_advice::standing::Standing;
 use fibs_events::told::Told;

@@ -15,8 +15,8 @@ ghost use Rattle.fibs_terminal.specs.Toggles.{any_on};
 ghost use Rattle.fibs_terminal.specs.Trying.{GoesOn, ShowsTry, TriesOrKeeps};
 ghost use Rattle.fibs_terminal.specs.TypedMoves.{KeepsTyped};
 
-use crate::going_on::say_rows;
 use crate::memory::Connection;
+use crate::own_rows::say_rows;
 use crate::screen::Screen;
 use fibs_connect::typed_line::TypedLine;
 use fibs_connect::wish::Wish;

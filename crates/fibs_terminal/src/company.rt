@@ -6,7 +6,7 @@ ghost use Rattle.fibs_advice.specs.declared.standing.Standing.TheVariants as S;
 ghost use Rattle.fibs_terminal.specs.Boxes.{IsEmptyCompany};
 ghost use Rattle.fibs_terminal.specs.KeptLists.{IsAmong, IsNotAmong, KeepsName};
 
-use crate::going_on::fit_from;
+use crate::own_rows::fit_from;
 use fibs_advice::situation::Inviter;
 use fibs_advice::standing::Standing;
 use fibs_fields::trailing_spaces::without_spaces;

@@ -1,11 +1,11 @@
 //! `fix`: what the server plays by itself is turned off, and the user logs in again if the client takes no decision
 //! before that. Lines are typed for him, one after another; no decision is among them.
-ghost use Rattle.std.specs.Prelude.{◌≡◌, ◌++◌, ◌||◌, None, OnOk, true};
+ghost use Rattle.std.specs.Prelude.{◌≡◌, ◌++◌, ◌||◌, None, OnOk, false, true};
 ghost use Rattle.fibs_position.specs.DecisionValue.{roll};
 ghost use Rattle.fibs_session.specs.Calls.Standing.{StandsAfter};
 ghost use Rattle.fibs_session.specs.History.Machine.{Talk, answer_now};
 ghost use Rattle.fibs_advice.specs.Passing.{is_greeted};
-ghost use Rattle.fibs_terminal.specs.Fixing.{after_asked, after_end, after_line, after_toggles, first_off, fix_words, line_bytes, next_line, plays_itself, toggles_line, turn_of};
+ghost use Rattle.fibs_terminal.specs.Fixing.{after_asked, after_end, after_line, after_toggles, after_typed, first_off, fix_words, is_asked, line_bytes, next_line, plays_itself, toggles_line, turn_of};
 ghost use Rattle.fibs_terminal.specs.Toggles.{any_on};
 ghost use Rattle.fibs_terminal.specs.declared.fixing.Step.TheVariants as S;
 
@@ -66,8 +66,10 @@ pub enum Step {
     Nothing,
     /// What the server plays is turned off.
     Toggles,
-    /// `bye` was typed: the connection is to end.
+    /// `bye` is typed: the connection is to end.
     Leaves,
+    /// It was only answered: the user was asked whether he leaves his match.
+    Asked,
     /// It has ended: it is to be opened again.
     Opens,
 }
@@ -138,7 +140,7 @@ impl Step {
         match self {
             Step::Toggles => toggles_line(first_off(automove, greedy), plays),
             Step::Opens => Some(FixLine::Open),
-            Step::Nothing | Step::Leaves => None,
+            Step::Nothing | Step::Leaves | Step::Asked => None,
         }
     }
 
@@ -149,7 +151,7 @@ impl Step {
         match self {
             Step::Toggles => after_toggles(first_off(automove, greedy), plays),
             Step::Opens => Step::Nothing,
-            Step::Nothing | Step::Leaves => self,
+            Step::Nothing | Step::Leaves | Step::Asked => self,
         }
     }
 
@@ -158,8 +160,20 @@ impl Step {
         ensures { result ≡ after_end self otherwise }
     {
         match (self, otherwise) {
-            (Step::Leaves, false) => Step::Opens,
+            (Step::Leaves | Step::Asked, false) => Step::Opens,
             _ => Step::Nothing,
+        }
+    }
+
+    /// Where it is after a line of the user, by whether that asks for `bye`, and whether he was only asked about it.
+    fn after_typed(self, is_bye: bool, asks: bool) -> Step
+        ensures { result ≡ after_typed self is_bye asks }
+    {
+        match (self, is_bye, asks) {
+            (Step::Leaves, true, true) => Step::Asked,
+            (Step::Asked, true, false) => Step::Leaves,
+            (Step::Asked, false, _) => Step::Nothing,
+            _ => self,
         }
     }
 }
@@ -200,6 +214,16 @@ impl Fixing {
         self.step = self.step.after_end(otherwise);
         self.line = None;
         self.step == Step::Opens
+    }
+
+    /// The user has typed a line; whether it asks for `bye`, and whether he was only asked if he leaves his match.
+    #[tactic(auto, using(crate::proofs::FixingLemmas::asked_by_bye, crate::proofs::FixingLemmas::asked_if_asked))]
+    pub fn hear_line(&mut self, is_bye: bool, asks: bool)
+        ensures step { self.new ≡ record self.old { step = after_typed self.old.step is_bye asks } }
+        ensures over { is_bye ≡ false → is_asked self.new.step ≡ false }
+        ensures goes { asks ≡ false → is_asked self.new.step ≡ false }
+    {
+        self.step = self.step.after_typed(is_bye, asks);
     }
 
     /// The user may type: which line is typed for him.

@@ -1,24 +1,22 @@
 //! How the user takes leave of a match: the first line that does is only answered, the second one in a row does it.
-ghost use Rattle.std.specs.Prelude.{◌≡◌, ◌++◌, IfOk, OnOk};
-ghost use Rattle.fibs_fields.specs.StoredBoard.{fields_of};
+ghost use Rattle.std.specs.Prelude.{◌≡◌, ◌++◌, IfOk, OnOk, Some, true};
 ghost use Rattle.fibs_picture.specs.InWords.Rows.{Says};
-ghost use Rattle.fibs_advice.specs.Situations.{is_match_over, is_won};
 ghost use Rattle.fibs_connect.specs.Wishes.{wish_value};
 ghost use Rattle.fibs_terminal.specs.Asking.{AsksInBounds, SendsUntaken, ShownGoesOn};
-ghost use Rattle.fibs_terminal.specs.GoingOn.{own_columns};
-ghost use Rattle.fibs_terminal.specs.Leaving.{KnownGoesOnOrAsks, QuitsOrAsks, TakesLeave, asked_first, is_again, is_match_on, leave_of, leave_word, leave_words, again_words, invite_words, resumed_words, saved_words, with_words};
+ghost use Rattle.fibs_terminal.specs.Fixing.{is_asked};
+ghost use Rattle.fibs_terminal.specs.OwnRows.{own_columns};
+ghost use Rattle.fibs_terminal.specs.Leaving.{KnownGoesOnOrAsks, QuitsOrAsks, TakesLeave, asked_first, is_again, is_match_on, leave_of, leave_word, leave_words, again_words, invite_words, is_bye, resumed_words, saved_words, with_words};
 ghost use Rattle.fibs_terminal.specs.Sending.{SendsOnWord};
 ghost use Rattle.fibs_terminal.specs.Trying.{GoesOn, KeepsUnanswered, ShowsTry, TriesOrKeeps};
 ghost use Rattle.fibs_terminal.specs.TypedMoves.{KeepsTyped};
+ghost use Rattle.fibs_terminal.specs.declared.leaving.Leave.TheVariants as L;
 
 use crate::account::is_free;
-use crate::going_on::say_rows;
 use crate::memory::Memory;
+use crate::own_rows::say_rows;
 use crate::screen::Screen;
 use fibs_connect::typed_line::TypedLine;
 use fibs_connect::wish::Wish;
-use fibs_fields::boards::Board;
-use fibs_fields::boards::fields::{MATCH_LENGTH, OTHER_SCORE, OWN_SCORE, UNLIMITED};
 use fibs_session::{Client, Directory};
 use fibs_wording::environment::Page;
 use fibs_wording::environment::pieces::short_name;
@@ -72,6 +70,16 @@ fn is_again(before: Option<Leave>, now: Option<Leave>) -> bool
     }
 }
 
+/// Whether a line takes leave by `bye`.
+fn is_bye(leave: Option<Leave>) -> bool
+    ensures { result ≡ is_bye leave }
+{
+    match leave {
+        Some(Leave::Bye) => true,
+        Some(Leave::Quit) | None => false,
+    }
+}
+
 /// About which word the user is asked now: the one by which he takes leave, if a match is on and he was not.
 fn asked_first(is_on: bool, before: Option<Leave>, now: Option<Leave>) -> Option<Leave>
     ensures { result ≡ asked_first is_on before now }
@@ -81,24 +89,6 @@ fn asked_first(is_on: bool, before: Option<Leave>, now: Option<Leave>) -> Option
     } else {
         None
     }
-}
-
-/// Whether a match of this length is over, in which the sides have these points.
-fn is_won(length: i32, own: i32, other: i32) -> bool
-    ensures { result ≡ is_won length own other }
-{
-    length != UNLIMITED && (length <= own || length <= other)
-}
-
-/// Whether the match of a board is over.
-pub(crate) fn is_match_over(board: &Board) -> bool
-    ensures { result ≡ is_match_over (fields_of board.now) }
-{
-    is_won(
-        board.field(MATCH_LENGTH),
-        board.field(OWN_SCORE),
-        board.field(OTHER_SCORE),
-    )
 }
 
 /// Appends with whom a match is, if his name is known.
@@ -193,6 +183,8 @@ impl<'a> Screen<'a> {
         ensures asks { IfOk result (λ wish. AsksInBounds line.old.items (wish_value wish line.new.items)) }
         ensures leave { IfOk result (λ wish. TakesLeave (is_match_on self.old.memory) self.old.memory.here.table.leave
             self.new.memory.here.table.leave line.new.items wish) }
+        ensures fix { OnOk result (is_asked self.new.memory.program.fixing.step ≡ true →
+            self.new.memory.here.table.leave ≡ Some L.Bye) }
         ensures quit { QuitsOrAsks client.now self.new.memory.here.table.leave line.old.items result }
         ensures known { KnownGoesOnOrAsks client.now self.old.page.settings.numbers
             self.old.memory.here.situation.standing self.new.memory.here.table.leave line.old.items line.new.items
@@ -214,7 +206,13 @@ impl<'a> Screen<'a> {
         let is_on = self.memory.is_match_on();
         let before = self.memory.here.table.leave;
         let wish = self.wish_line(client, directory, line)?;
-        match asked_first(is_on, before, leave_of(wish, line.as_slice())) {
+        let leave = leave_of(wish, line.as_slice());
+        let asked = asked_first(is_on, before, leave);
+        self.memory
+            .program
+            .fixing
+            .hear_line(is_bye(leave), asked.is_some());
+        match asked {
             None => {
                 self.memory.here.table.leave = None;
                 Ok(wish)

@@ -9,6 +9,7 @@ ghost use Rattle.fibs_terminal.specs.Greetings.{IsHeard, is_due};
 ghost use Rattle.fibs_terminal.specs.HeardMessages.{IsSeen, NotesComing, NotesLogin, NotesRated, NotesSpeaker, NotesUser, SpeakerAfter, greeted_by, greeting_listed, is_talk, list_ended, list_heard, tells_rating, toggles_heard, with_message, with_seen};
 ghost use Rattle.fibs_terminal.specs.HeardTexts.{AfterText, HearsNoBoard, IsKnown, NotesMatch, settled, with_here, with_match, with_shown, with_told};
 ghost use Rattle.fibs_terminal.specs.LeftOut.{message_left_out, player_of, text_left_out};
+ghost use Rattle.fibs_terminal.specs.Reported.{NotesLine};
 ghost use Rattle.fibs_terminal.specs.declared.listening.greeting.Greeting.{Greeting};
 ghost use Rattle.fibs_terminal.specs.declared.listening.left_out.Known.{Known};
 ghost use Rattle.fibs_terminal.specs.declared.listening.left_out.Seen.{Seen};
@@ -18,10 +19,10 @@ mod left_out;
 
 use crate::account::is_free;
 use crate::company::is_told;
-use crate::going_on::fit_from;
 use crate::listening::left_out::{
     Known, LeftOut, Seen, change_left_out, message_left_out, player_of, text_left_out,
 };
+use crate::own_rows::fit_from;
 use crate::people::{ListAsked, say_players};
 use crate::results::Rated;
 use crate::screen::{Moment, Screen};
@@ -137,7 +138,9 @@ impl<'a> Screen<'a> {
         line: &Line<'_>,
         reading: &Reading<'_>,
         moment: Moment,
-    ) -> Result<(), AllocError> {
+    ) -> Result<(), AllocError>
+        ensures { OnOk result (NotesLine reading.now self.old.memory self.new.memory) }
+    {
         match reading {
             Reading::Board(board) => self.hear_watched(line.bytes, board),
             Reading::Numbered(message) => self.hear_message(message, moment),
@@ -429,6 +432,7 @@ impl<'a> Screen<'a> {
         ensures hidden { OnOk result ((seen : Seen) × IsSeen self.old.memory (player_of message.now) seen
             × (is_some (message_left_out message.now seen) ≡ true →
             self.new.memory.program.talk ≡ self.old.memory.program.talk)) }
+        ensures kept { self.new.memory ≡ with_seen self.old.memory self.new.memory }
     {
         let seen = self.seen(player_of(message));
         self.say_seen(message, moment, &seen)?;

@@ -13,7 +13,7 @@ ghost use Rattle.fibs_terminal.specs.Trying.{DrawsTrial, IsTriedNow, SendsTried,
 
 use crate::commands::{say_no_game, set_line};
 use crate::drawing::append_picture;
-use crate::going_on::say_rows;
+use crate::own_rows::say_rows;
 use fibs_advice::plays::{Listing, Sheet, append_plays};
 use fibs_advice::trial::Trial;
 use fibs_commands::laws::read_command_is_exact;

@@ -7,7 +7,7 @@ ghost use Rattle.fibs_terminal.specs.Listed.{after_end, after_passed, is_coming,
 ghost use Rattle.fibs_terminal.specs.declared.people.ListAsked.TheVariants as A;
 
 use crate::account::Account;
-use crate::going_on::{is_narrow, say_rows};
+use crate::own_rows::{is_narrow, say_rows};
 use crate::screen::Screen;
 use fibs_fields::name::Name;
 use fibs_fields::split::split;

@@ -1,9 +1,9 @@
 //! Where the newest board stands: above what is said, or in its midst, as `board above`, `rows` and `columns` say.
 ghost use Rattle.std.specs.Prelude.{◌≡◌};
-ghost use Rattle.fibs_terminal.specs.GoingOn.{why_below};
+ghost use Rattle.fibs_terminal.specs.OwnRows.{why_below};
 
 use crate::drawing::{end_text, is_wanted};
-use crate::going_on::say_rows;
+use crate::own_rows::say_rows;
 use crate::screen::Screen;
 use fibs_fields::decimal::read_decimal;
 use fibs_wording::environment::{Settings, read_place};

@@ -6,7 +6,7 @@ ghost use Rattle.fibs_terminal.specs.Ended.{rated_by, score_of, unrated_after};
 ghost use Rattle.fibs_wording.specs.declared.matches.Score.{Score};
 ghost use Rattle.fibs_terminal.specs.Recording.{AppendsLine, EndsMatch, IsRematch, SaysTroubleOnce, with_ended, with_results};
 
-use crate::going_on::fit_from;
+use crate::own_rows::fit_from;
 use crate::rematch::Rematch;
 use crate::results::{Ended, Rated, Results, score_on};
 use crate::screen::{Moment, Screen};

@@ -10,7 +10,7 @@ ghost use Rattle.fibs_terminal.specs.Fixing.{before_typing};
 ghost use Rattle.fibs_terminal.specs.Resting.{IsAbsent, IsJoinRow, IsSettled, Rests, SaysRow, has_told};
 
 use crate::fixing::{Turn, plays_itself};
-use crate::going_on::say_rows;
+use crate::own_rows::say_rows;
 use crate::rematch::{note_said, say_rematch};
 use crate::screen::{Moment, Screen};
 use fibs_advice::advised::{Advice, Aside, advised};

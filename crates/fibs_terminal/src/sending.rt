@@ -19,7 +19,7 @@ use crate::screen::Screen;
 use fibs_advice::doubling::why_no_double;
 use fibs_advice::passing::{Passing, passing_of};
 use fibs_advice::rules::append_rule;
-use fibs_advice::spelling::words::way_now;
+use fibs_advice::spelling::meant_moves::way_now;
 use fibs_connect::typed_line::TypedLine;
 use fibs_connect::wish::Wish;
 use fibs_fields::split::split;

@@ -6,14 +6,15 @@ ghost use Rattle.fibs_fields.specs.Split.{before};
 ghost use Rattle.fibs_game.specs.declared.refusal.Refusal.TheVariants.{IllegalPlay};
 ghost use Rattle.fibs_advice.specs.Standings.{is_called, is_in_match};
 ghost use Rattle.fibs_terminal.specs.Listed.{after_passed};
-ghost use Rattle.fibs_terminal.specs.Noted.{Loses, NotesGame, NotesPassed, NotesSent, Opens};
+ghost use Rattle.fibs_terminal.specs.Noted.{NotesGame, NotesPassed, NotesSent, Opens};
 ghost use Rattle.fibs_terminal.specs.Reasons.{asks_advice, of_board, reason_of};
+ghost use Rattle.fibs_terminal.specs.Reported.{Hears, Notes, NotesEnd, refused};
 ghost use Rattle.fibs_terminal.specs.Retold.{on_word, sent_row};
 ghost use Rattle.fibs_terminal.specs.WatchedKept.{passed_watching};
 
 use crate::account::is_free;
 use crate::drawing::Watching;
-use crate::going_on::{fit_from, say_rows};
+use crate::own_rows::{fit_from, say_rows};
 use crate::people::ListAsked;
 use crate::screen::{Moment, Screen};
 use fibs_advice::passing::Passing;
@@ -120,28 +121,35 @@ fn words_of(why: Refusal, rule: &[u8], standing: Standing) -> &[u8]
     }
 }
 
+/// Breaks the terminal's own words, from `start` on, so that they fit. What was heard of the server stays as it is.
+fn fit_words(said: &Said<'_>, start: usize, page: &mut Page<'_>) -> Result<(), AllocError> {
+    match said {
+        Said::Heard(_, _, _) | Said::Game(_) => Ok(()),
+        _ => fit_from(start, page),
+    }
+}
+
 impl<'a> Screen<'a> {
     /// Hears one thing, and makes the text that is written for it.
-    pub fn hear(&mut self, said: &Said<'_>, moment: Moment) -> Result<(), AllocError> {
-        match said {
-            // its board is reported next
-            Said::Heard(_, _, Some(_)) => {}
-            Said::Heard(line, reading, None) => self.hear_line(line, reading, moment)?,
-            Said::Game(game) => self.hear_game(game)?,
-            _ => {
-                let start = self.page.text.len();
-                self.hear_other(said, moment)?;
-                fit_from(start, &mut self.page)?;
-            }
-        }
+    pub fn hear(&mut self, said: &Said<'_>, moment: Moment) -> Result<(), AllocError>
+        ensures { OnOk result (Hears said.now moment.passed self.old.memory self.new.memory) }
+    {
+        let start = self.page.text.len();
+        self.hear_said(said, moment)?;
+        fit_words(said, start, &mut self.page)?;
         let game = self.memory.here.table.title.as_slice();
         self.memory.program.title.put(game, &mut self.page)
     }
 
-    /// Hears one thing of which the terminal's own words tell.
-    fn hear_other(&mut self, said: &Said<'_>, moment: Moment) -> Result<(), AllocError> {
+    /// Has each thing heard by what it is.
+    fn hear_said(&mut self, said: &Said<'_>, moment: Moment) -> Result<(), AllocError>
+        ensures { OnOk result (Notes said.now moment.passed self.old.memory self.new.memory) }
+    {
         match said {
-            Said::Heard(_, _, _) | Said::Game(_) => Ok(()),
+            // its board is reported next
+            Said::Heard(_, _, Some(_)) => Ok(()),
+            Said::Heard(line, reading, None) => self.hear_line(line, reading, moment),
+            Said::Game(game) => self.hear_game(game),
             Said::Opened => self.hear_opened(moment),
             Said::NoConnection(why) => {
                 say_no_connection(*why, &mut self.page)?;
@@ -270,7 +278,7 @@ impl<'a> Screen<'a> {
         match self.memory.here.passing {
             Passing::Again => self.say_on_word(SENT_AGAIN, line),
             Passing::OnWord => self.say_on_word(SENT_ON_WORD, line),
-            Passing::Asks | Passing::Forbidden(_) => self.say_as_it_is(line),
+            Passing::Asks | Passing::Forbidden(_) => self.note_passed_line(line),
         }
     }
 
@@ -291,8 +299,8 @@ impl<'a> Screen<'a> {
         self.say_sent(how, line, b"")
     }
 
-    /// Says that a line was sent as it is.
-    fn say_as_it_is(&mut self, line: &[u8]) -> Result<(), AllocError>
+    /// Takes note of a line that was sent as it is, and says so.
+    fn note_passed_line(&mut self, line: &[u8]) -> Result<(), AllocError>
         ensures moves { self.new.memory.here.lists_moves ≡ bytes_eq (before 32 line.now) (codes "oldmoves") }
         ensures watching { self.new.memory.here.watching ≡ passed_watching line.now self.old.memory.here.watching }
         ensures list { self.new.memory.here.list.asked ≡ after_passed line.now self.old.memory.here.list.asked }
@@ -318,7 +326,7 @@ impl<'a> Screen<'a> {
 
     /// Says why a decision was refused: of a move against the rules which rule it is. What is advised follows.
     pub(crate) fn say_refused(&mut self, why: Refusal) -> Result<(), AllocError>
-        ensures { self.new.memory.here.looking ≡ self.old.memory.here.looking }
+        ensures { self.new.memory ≡ refused self.old.memory }
     {
         self.memory.here.advising.inquired = true;
         let standing = self.memory.here.situation.standing;
@@ -331,7 +339,7 @@ impl<'a> Screen<'a> {
 
     /// The connection is over.
     fn hear_lost(&mut self, waited: &Option<Outstanding>, moment: Moment) -> Result<(), AllocError>
-        ensures { OnOk result (Loses self.old.memory self.new.memory) }
+        ensures { OnOk result (NotesEnd self.old.memory moment.passed self.new.memory) }
     {
         self.page.ring()?;
         if let Some(asked) = waited {

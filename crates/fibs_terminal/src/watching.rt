@@ -5,7 +5,7 @@ ghost use Rattle.fibs_terminal.specs.Boxes.{begun_watching, nothing_watched};
 ghost use Rattle.fibs_terminal.specs.HeardTexts.{with_here, with_watched};
 
 use crate::drawing::Watching;
-use crate::going_on::say_rows;
+use crate::own_rows::say_rows;
 use crate::screen::Screen;
 use fibs_advice::watched::{Seen, read_seen};
 use fibs_fields::boards::Board;

@@ -6,11 +6,11 @@ ghost use Rattle.fibs_session.specs.Calls.Standing.{StandsAfter};
 ghost use Rattle.fibs_session.specs.History.Machine.{Talk, answer_now, shown_now};
 ghost use Rattle.fibs_terminal.specs.Again.{lacks_connection};
 ghost use Rattle.fibs_terminal.specs.AskedBoards.{SaysFact, SaysFactShown, TellsOwn, TellsShown};
-ghost use Rattle.fibs_terminal.specs.GoingOn.{own_columns};
+ghost use Rattle.fibs_terminal.specs.OwnRows.{own_columns};
 ghost use Rattle.fibs_terminal.specs.Reasons.{no_game_words};
 
 use crate::drawing::{Boards, Watching};
-use crate::going_on::say_rows;
+use crate::own_rows::say_rows;
 use crate::reconnecting::is_offline;
 use fibs_picture::in_words::{Fact, Told, append_row};
 use fibs_session::{Client, Refusal};

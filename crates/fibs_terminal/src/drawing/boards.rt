@@ -17,8 +17,8 @@ use crate::drawing::ending::Ending;
 use crate::drawing::outcomes::{append_outcome, ending_of};
 use crate::drawing::picture::{append_marked, arrivals_since};
 use crate::drawing::telling::told_before;
-use crate::going_on::say_rows;
-use crate::leaving::is_match_over;
+use crate::own_rows::say_rows;
+use fibs_advice::match_state::is_match_over;
 use fibs_advice::situation::is_same;
 use fibs_fields::boards::Board;
 use fibs_fields::boards::fields::{

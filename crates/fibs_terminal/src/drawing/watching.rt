@@ -7,7 +7,7 @@ ghost use Rattle.fibs_picture.specs.InWords.Rows.{Says};
 ghost use Rattle.fibs_picture.specs.declared.in_words.told.Told.TheVariants as T;
 ghost use Rattle.fibs_terminal.specs.Boxes.{begun_watching, nothing_watched};
 ghost use Rattle.fibs_terminal.specs.Drawings.{Draws, told_before};
-ghost use Rattle.fibs_terminal.specs.GoingOn.{own_columns};
+ghost use Rattle.fibs_terminal.specs.OwnRows.{own_columns};
 ghost use Rattle.fibs_terminal.specs.WatchedDrawings.{TellsWatched};
 ghost use Rattle.fibs_terminal.specs.WatchedKept.{IsDrawnWatched, IsSamePair, SaysWatched, StaysDrawn, after_asking, drawn_watching, is_wanted, is_watched, pair_words, passed_watching, watch_words};
 
@@ -15,7 +15,7 @@ use crate::drawing::above::{Above, end_text};
 use crate::drawing::boards::{append_dice, is_moved};
 use crate::drawing::telling::told_before;
 use crate::drawing::watched::append_watched;
-use crate::going_on::say_rows;
+use crate::own_rows::say_rows;
 use fibs_fields::boards::Board;
 use fibs_fields::boards::fields::{
     COLOUR, FIRST_DIE, OTHER_FIRST_DIE, OTHER_SECOND_DIE, SECOND_DIE, TURN, WAS_DOUBLED,

@@ -1,6 +1,6 @@
 //! What the server plays by itself is turned off by `fix`: the lines that are typed for the user, and no other ones.
 
-use super::lines::{FIRST_BOARD, SETTINGS, WELCOME};
+use super::lines::{FIRST_BOARD, SETTINGS, TO_ROLL, WELCOME};
 use super::seats::{Cue, Cue::Types, assert_ends, fixed, plain_settings};
 use crate::fibs_terminal::FixLine;
 
@@ -103,6 +103,45 @@ fn an_end_that_comes_before_ends_it() {
         Cue::Rests,
     ];
     assert_eq!(fixed(&leaves), None);
+}
+
+/// In a match the `bye` that is typed for the user is only answered. If he does not type it again he stays: then no end
+/// of the connection is followed by `open`, whatever he types later.
+#[test]
+fn who_stays_in_his_match_is_not_logged_in_again() {
+    let begun = [
+        Cue::Hears(WELCOME),
+        Cue::Hears(AUTOMOVE),
+        Cue::Hears(b"** You are now playing a 5 point match with bob\r\n"),
+        Cue::Hears(TO_ROLL),
+        Types(b"fix"),
+        Cue::Rests,
+        Types(b"toggle automove"),
+        Cue::Rests,
+        Types(b"bye"),
+        Cue::Rests,
+    ];
+    let left = "closed, as you asked: connecting again\n";
+    assert_ends(plain_settings(), &begun, &[Types(b"bye"), Cue::Rests, Cue::Loses], left);
+    // the question is open
+    let lost = [Cue::Hears(b"** hm\r\n"), Cue::Rests, Cue::Loses];
+    assert_ends(plain_settings(), &begun, &lost, "lost: connecting again\n");
+    for word in [b"board".as_slice(), b"quit", b"say hello", b"pip", b"send bye", b"", b"help"] {
+        let stays = [Types(word), Cue::Rests, Cue::Loses];
+        assert_ends(plain_settings(), &begun, &stays, "lost: open connects again, quit ends\n");
+        let later = [Types(word), Cue::Rests, Types(b"bye"), Types(b"bye"), Cue::Rests, Cue::Loses];
+        assert_ends(plain_settings(), &begun, &later, "closed, as you asked: open connects again, quit ends\n");
+    }
+    // a text that forgets the question is no answer, and the next line is
+    for text in [b"Starting a new game with bob.\r\n".as_slice(), b"bob drops connection. The game was saved.\r\n"] {
+        let stays = [Cue::Hears(text), Types(b"pip"), Cue::Rests, Cue::Loses];
+        assert_ends(plain_settings(), &begun, &stays, "lost: open connects again, quit ends\n");
+    }
+    let anew = [Cue::Hears(b"Starting a new game with bob.\r\n"), Types(b"bye"), Types(b"bye"), Cue::Rests, Cue::Loses];
+    assert_ends(plain_settings(), &begun, &anew, left);
+    // and who asks once more is
+    let again = [Types(b"fix"), Cue::Rests, Types(b"bye"), Types(b"bye"), Cue::Rests, Cue::Loses];
+    assert_ends(plain_settings(), &begun, &again, left);
 }
 
 /// What the user types after a login, and by which row the screen ends.

@@ -1,7 +1,7 @@
 //! Rows of the terminal's own words: each has room, and what goes on of one begins with its space.
 ghost use Rattle.std.specs.Prelude.{◌≡◌, OnOk, drop, take};
 ghost use Rattle.fibs_picture.specs.InWords.Rows.{Says};
-ghost use Rattle.fibs_terminal.specs.GoingOn.{own_columns};
+ghost use Rattle.fibs_terminal.specs.OwnRows.{own_columns};
 
 use fibs_picture::in_words::append_rows_of;
 use fibs_wording::environment::Page;
