@@ -5,8 +5,9 @@ use super::seats::{
     Cue, Cue::Hears, Cue::Types, Scene, assert_ends, assert_scenes, assert_wanted, own_settings, plain_settings, shown,
     shown_then,
 };
+use crate::fibs_wording::dates::append_time;
 use crate::fibs_wording::environment::broken::break_at_spaces;
-use crate::fibs_wording::environment::{Setting, Settings, read_setting};
+use crate::fibs_wording::environment::{Setting, Settings, Zone, read_setting};
 use crate::fibs_wording::matches::{Ending, read_ending};
 
 /// What is typed: the longest words that are said again, and those that are one byte longer; the least height; names
@@ -34,6 +35,29 @@ static TYPED: [Scene; 11] = [
 #[test]
 fn what_is_typed_has_its_limits() {
     assert_scenes(plain_settings(), &TYPED);
+}
+
+/// Why a plain command was not sent: what is wrong with a name or a text, or that there is no connection.
+#[test]
+fn why_a_command_was_not_sent() {
+    let name = "A name has 1 to 64 printable ASCII characters, no space or colon. [1 BadName]\n";
+    let cases: [(&[Cue<'_>], &str); 3] = [
+        (&[Types(b"tell b:ob hello")], name),
+        (&[Types(b"tell bob \x7f")], "A text has printable ASCII characters, at least one. [2 BadText]\n"),
+        (&[Cue::Loses, Types(b"who")], "There is no connection: type open. [2 Offline]\n"),
+    ];
+    for (steps, row) in cases {
+        assert_ends(plain_settings(), &FIRST_BOARD, steps, row);
+    }
+    assert_ends(plain_settings(), &FIRST_BOARD, &[Types(b"talk")], "\nNobody has talked yet.\n");
+}
+
+/// A time that no clock shows.
+#[test]
+fn a_time_that_is_no_clock_time() {
+    let mut text = Vec::new();
+    append_time(u64::MAX, &Zone::utc(), &mut text).expect("there is memory");
+    assert_eq!(text, b"--:--");
 }
 
 /// An answer of so many bytes that the line that tells it is the longest is told, and refused for its text.

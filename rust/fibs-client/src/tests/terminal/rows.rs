@@ -21,6 +21,14 @@ fn a_row_is_broken_by_the_columns_of_its_letters() {
     }
 }
 
+/// A byte that begins no letter takes a column, and so does each after it.
+#[test]
+fn a_byte_that_is_no_letter_takes_a_column() {
+    let mut broken = b"aaaa \xc0\xc0\xc0 b".to_vec();
+    break_at_spaces(0, 8, &mut broken);
+    assert_eq!(broken.as_slice(), b"aaaa \xc0\xc0\xc0\nb");
+}
+
 /// Texts of the terminal's own words, the columns that they may take, and the rows that are made of them.
 static OWN_ROWS: [(&str, usize, &str); 8] = [
     ("", 8, ""),
