@@ -276,6 +276,11 @@ fn each_line_says_what_has_happened() {
             ],
             &["ann resigns 1 single", "ann rolled 6 3"],
         ),
+        // a play by a board alone ends an offer too
+        (
+            &[BEGUN, "eve wants to resign. You will win 1 point. Type 'accept' or 'reject'.", PLAYED, "You accept and win 1 point."],
+            &["ann rolled 6 3", "eve resigns 1 single", "ann played 24-18 13-10"],
+        ),
         (
             &[TO_ROLL, "You want to resign. eve will win 1 point.", "You reject. The game continues."],
             &["ann resigns 1 single"],
