@@ -2,8 +2,8 @@
 
 use crate::{
     AllocError, Board, CubeOwner, Decision, Direction, Disallowed, FieldFault, Message, Phase, Play, Position,
-    PositionFault, Reading, Side, Step, differs, effect, fibs_messages::print_message, fibs_position::is_crawford, field,
-    read,
+    PositionFault, Reading, Side, Step, differs, effect, fibs_messages::print_message, fibs_position::is_crawford,
+    field, read,
 };
 use std::fmt;
 use std::hash::{Hash, Hasher};

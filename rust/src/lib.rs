@@ -85,8 +85,8 @@ pub use fibs_lines::{Fed, LIMIT, Line};
 pub use fibs_messages::directory::{Directory, DirectoryFault, Player};
 pub use fibs_messages::{Board, Fault, Field, FieldFault, Message, Name, OwnInfo, Reading, Tail, WhoInfo, Word, read};
 pub use fibs_position::{
-    CubeOwner, Decision, Direction, Disallowed, Phase, Play, Position, PositionFault, Stake, Step, WatchedBoard, differs,
-    effect,
+    CubeOwner, Decision, Direction, Disallowed, Phase, Play, Position, PositionFault, Stake, Step, WatchedBoard,
+    differs, effect,
 };
 pub use fibs_session::{Outstanding, PlainRefusal, Refusal};
 pub use lines::{Lines, OwnedLine, OwnedLines, ReadLines};

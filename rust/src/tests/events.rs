@@ -278,7 +278,12 @@ fn each_line_says_what_has_happened() {
         ),
         // a play by a board alone ends an offer too
         (
-            &[BEGUN, "eve wants to resign. You will win 1 point. Type 'accept' or 'reject'.", PLAYED, "You accept and win 1 point."],
+            &[
+                BEGUN,
+                "eve wants to resign. You will win 1 point. Type 'accept' or 'reject'.",
+                PLAYED,
+                "You accept and win 1 point.",
+            ],
             &["ann rolled 6 3", "eve resigns 1 single", "ann played 24-18 13-10"],
         ),
         (
