@@ -334,3 +334,23 @@ fn a_watched_board_stands_above() {
     screen.assert_above(&picture(&[("your turn", "O ann's turn"), ("O You", "O ann")]));
     assert_eq!(screen.row(39), "You watch ann and bob: unwatch ends it.");
 }
+
+/// It is drawn for another size as well, and scrolls in a terminal that gets too low.
+#[test]
+fn a_watched_board_takes_another_size_at_once() {
+    let board = String::from_utf8(TO_ROLL.to_vec()).unwrap().replace("You:bob", "ann:bob");
+    let start = [
+        Cue::Opens,
+        Cue::Hears(WELCOME),
+        Cue::Hears(SETTINGS),
+        Cue::Hears(b"You're now watching ann.\r\n"),
+        Cue::Hears(board.as_bytes()),
+    ];
+    let watched = |height, typed| shown(high(height), &[], &[&start[..], &[Cue::Types(typed)]].concat());
+    let mut screen = Shown::new(24, 80, 30);
+    screen.take(&watched(24, b"rows 40"));
+    screen.assert_above(&picture(&[("your turn", "O ann's turn"), ("O You", "O ann")]));
+    let mut low = Shown::new(29, 80, 3);
+    low.take(&watched(40, b"rows 29"));
+    assert_eq!(low.scrolls, (0, 28));
+}

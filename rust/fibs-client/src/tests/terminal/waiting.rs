@@ -42,7 +42,7 @@ const TURN: &str = "It may be your turn: board shows the game.\n";
 const MAY_WAIT: &str = "bob may wait for your answer: accept, or reject.\n";
 
 /// Whose turn it is after an offer to resign is over, and how a decision that was refused goes on.
-static TURNS: [Scene; 5] = [
+static TURNS: [Scene; 6] = [
     // he had not the turn before it
     (
         &[Hears(MOVED), Hears(RESIGNS), Types(b"accept"), Hears(b"** There is nothing to accept.\r\n"), Cue::Rests],
@@ -65,6 +65,18 @@ static TURNS: [Scene; 5] = [
             Hears(MOVED),
             Hears(RESIGNS),
             Hears(TO_MOVE),
+            Types(b"reject"),
+            Hears(b"You reject. The game continues.\r\n"),
+            Cue::Rests,
+        ],
+        TURN,
+    ),
+    // the board that answered his roll gave him the dice, and no text did
+    (
+        &[
+            Types(b"roll"),
+            Hears(TO_MOVE),
+            Hears(RESIGNS),
             Types(b"reject"),
             Hears(b"You reject. The game continues.\r\n"),
             Cue::Rests,
