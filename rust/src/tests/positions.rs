@@ -1,7 +1,9 @@
 //! The boards of `boards.txt`: what is seen, may be decided and is carried out on each; and what else a position answers.
 
 use crate::fibs_fields::boards::Board;
-use crate::fibs_position::{Decision, Direction, GameBoard, Position, WatchedBoard, differs, effect};
+use crate::fibs_position::{
+    Decision, Direction, GameBoard, Position, WatchedBoard, differs, effect, is_good, phase_of,
+};
 use crate::tests::boards::{AS_SENT, PASSING, TABLE, TO_ANSWER, TO_MOVE, TO_ROLL};
 use crate::tests::table::{After, Checkers, Row, rows};
 
@@ -63,6 +65,9 @@ fn boards_are_as_worked_out() {
     assert!(rows.len() > 80, "{}", rows.len());
     for row in &rows {
         let board = Board::read(row.board.as_bytes()).expect(row.name);
+        assert_eq!(is_good(&board), row.fault.is_none(), "{}: whether it has a position", row.name);
+        let phase = row.fault.is_none().then_some(row.phase);
+        assert_eq!(phase_of(&board).map(|phase| phase.name()), phase, "{}: its phase", row.name);
         match Position::of(&board) {
             Ok(position) => {
                 assert_seen(row, &position);
