@@ -1,6 +1,6 @@
 //! What is printed for the lines of a portion, in room that is made once.
 
-ghost use Rattle.std.specs.Prelude.{◌≡◌, ◌+◌, ◌-◌, ◌<◌, ◌≤◌, ◌++◌, ◌∷◌, ℕ, List, [], true, false, length, take};
+ghost use Rattle.std.specs.Prelude.{◌≡◌, ◌+◌, ◌<◌, ◌≤◌, ◌++◌, ◌∷◌, ℕ, List, [], true, false, length, take};
 
 use std::marker::Model;
 
@@ -58,14 +58,6 @@ impl Page {
         self.len
     }
 
-    /// Forgets the bytes after the first `len`.
-    fn truncate(&mut self, len: usize)
-        requires { len ≤ length self.old }
-        ensures { self.new ≡ take len self.old }
-    {
-        self.len = len;
-    }
-
     /// Appends bytes.
     #[inline(always)]
     fn append(&mut self, more: &[u8])
@@ -75,37 +67,6 @@ impl Page {
         let end = self.len + more.len();
         self.bytes[self.len..end].copy_from_slice(more);
         self.len = end;
-    }
-
-    /// Appends bytes by two copies of `size` bytes, the second of which may begin within the first.
-    #[inline(always)]
-    fn append_twice(&mut self, more: &[u8], size: usize)
-        requires least { size ≤ length more.now }
-        requires most { length more.now ≤ size + size }
-        requires fits { length self.old + length more.now ≤ ROOM }
-        ensures { self.new ≡ self.old ++ more.now }
-    {
-        let start = self.len();
-        let last = more.len() - size;
-        self.append(&more[..size]);
-        self.truncate(start + last);
-        self.append(&more[last..]);
-    }
-
-    /// Appends bytes. Those of most lines are appended by copies of a fixed size, which take no call.
-    #[inline(always)]
-    fn append_line(&mut self, more: &[u8])
-        requires { length self.old + length more.now ≤ ROOM }
-        ensures { self.new ≡ self.old ++ more.now }
-    {
-        let len = more.len();
-        if 32 <= len && len <= 64 {
-            self.append_twice(more, 32);
-        } else if 16 <= len && len <= 32 {
-            self.append_twice(more, 16);
-        } else {
-            self.append(more);
-        }
     }
 
     /// Appends a prefix, a text and a line end, if there is room. If not, nothing is appended.
@@ -119,7 +80,7 @@ impl Page {
             return false;
         }
         self.append(prefix);
-        self.append_line(text);
+        self.append(text);
         self.append(b"\n");
         true
     }
