@@ -1,6 +1,6 @@
 //! Where the newest board stands: above what is said, or in its midst, as `board above`, `rows` and `columns` say.
 ghost use Rattle.std.specs.Prelude.{◌≡◌};
-ghost use Rattle.fibs_terminal.specs.OwnRows.{why_below};
+ghost use Rattle.fibs_terminal.specs.OwnRows.{said_above, why_below};
 
 use crate::drawing::{end_text, is_wanted};
 use crate::own_rows::say_rows;
@@ -27,6 +27,8 @@ const WHICH_PLACE: &[u8] = b"board, board above, or board below.\n";
 
 const ABOVE: &[u8] = b"The newest board stands above now: board below lets it scroll.\n";
 
+const NEXT: &[u8] = b"Boards stand above from now on, if they have room: board below ends that.\n";
+
 const BELOW: &[u8] = b"Boards scroll now: board above has the newest one stand above.\n";
 
 /// Why it can't stand above.
@@ -41,6 +43,20 @@ fn why_below(settings: &Settings<'_>) -> &'static [u8]
         b"How high is this terminal? rows 40 says it.\n"
     } else {
         b"This terminal is too low for a board above: it scrolls.\n"
+    }
+}
+
+/// What is said once the user has asked for the newest board to stand above: whether it does, or, if none has come, is
+/// to.
+fn said_above(is_held: bool, is_wanted: bool, settings: &Settings<'_>) -> &'static [u8]
+    ensures { result.now ≡ said_above is_held is_wanted settings.now }
+{
+    if is_held {
+        ABOVE
+    } else if is_wanted && settings.rows != 0 {
+        NEXT
+    } else {
+        why_below(settings)
     }
 }
 
@@ -124,14 +140,13 @@ impl<'a> Screen<'a> {
             return say_rows(WHICH_PLACE, &mut self.page);
         };
         self.page.settings.above = Some(is_above);
-        let stands = self.stand_again()?;
-        if !is_above {
-            say_rows(BELOW, &mut self.page)
-        } else if stands {
-            say_rows(ABOVE, &mut self.page)
+        let is_wanted = self.stand_again()?;
+        let is_held = self.memory.program.above.is_held();
+        let said = if is_above {
+            said_above(is_held, is_wanted, &self.page.settings)
         } else {
-            let why = why_below(&self.page.settings);
-            say_rows(why, &mut self.page)
-        }
+            BELOW
+        };
+        say_rows(said, &mut self.page)
     }
 }

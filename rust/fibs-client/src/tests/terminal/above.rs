@@ -302,6 +302,21 @@ fn the_user_says_where_the_newest_board_stands() {
     assert_eq!(last(high(40), &[Cue::Types(b"rows 0")]), "rows 40: how high the terminal is, from 1 to 999.");
 }
 
+/// Before the first board it is not said that it stands there: whether it has room is not known.
+#[test]
+fn before_a_board_it_is_said_where_the_next_ones_stand() {
+    let last = |settings| {
+        let steps = [Cue::Opens, Cue::Hears(WELCOME), Cue::Hears(SETTINGS), Cue::Types(b"board above")];
+        shown(settings, &[], &steps).lines().last().map(str::to_string).expect("a row")
+    };
+    let next = "Boards stand above from now on, if they have room: board below ends that.";
+    for rows in [21, 24, 40] {
+        assert_eq!(last(high(rows)), next, "{rows} rows");
+    }
+    assert_eq!(last(high(0)), "How high is this terminal? rows 40 says it.");
+    assert_eq!(last(Settings { scrolls_below: false, ..high(40) }), "This terminal can't keep a board above.");
+}
+
 /// A terminal that gets another size: the board is drawn for it, or scrolls from then on.
 #[test]
 fn another_size_is_taken_at_once() {
