@@ -308,16 +308,18 @@ def settings_are_read_from_their_place():
 
 @scene
 def a_home_that_is_no_folder_has_no_settings():
-    """What the path of the settings names as a folder is a device: she plays, and no row speaks of settings."""
-    server = Listener()
-    ann = Person(server.port, HOME='/dev/null', FIBS_CONFIG=None, XDG_CONFIG_HOME=None)
-    server.accept()
-    server.line()
-    server.send(WELCOME, OWN_INFO % 'ann', '12 eve a word')
-    ann.reads('eve says: a word')
-    same('rows of settings', [row for row in ann.lines() if 'settings' in row], [])
-    ann.close()
-    server.close()
+    """What the path of the settings names as a folder is a device, or they are said to be none by /dev/null: she plays,
+    and no row speaks of settings."""
+    for more in {'HOME': '/dev/null', 'FIBS_CONFIG': None}, {'FIBS_CONFIG': '/dev/null'}:
+        server = Listener()
+        ann = Person(server.port, XDG_CONFIG_HOME=None, **more)
+        server.accept()
+        server.line()
+        server.send(WELCOME, OWN_INFO % 'ann', '12 eve a word')
+        ann.reads('eve says: a word')
+        same('rows of settings', [row for row in ann.lines() if 'settings' in row], [])
+        ann.close()
+        server.close()
 
 
 @scene

@@ -10,7 +10,8 @@ import threading
 import time
 import zoneinfo
 
-from people import PATIENCE, Failed, Person, greeted, leaves, same, with_listener
+from people import (PASSWORD_FILE, PATIENCE, PROGRAM, Failed, Person, Reader, greeted, leaves, same,
+                    with_listener)
 
 # What a terminal does not obey.
 HARMLESS = {chr(code) for code in [10, *range(32, 127)]}
@@ -258,6 +259,8 @@ ENVIRONMENTS = [
     ({'LC_ALL': '', 'LC_CTYPE': '', 'LANG': 'C.UTF-8'}, False, AS_IT_IS, THEN),
     ({'LC_ALL': 'en_US.utf8'}, False, AS_IT_IS, THEN),
     ({'LC_ALL': 'de_DE.UTF-8@euro'}, False, AS_IT_IS, THEN),
+    # as a Mac says it; the shell of these scenes is Python, which would set another locale
+    ({'LC_ALL': None, 'LC_CTYPE': 'UTF-8', 'LANG': None, 'PYTHONCOERCECLOCALE': '0'}, False, AS_IT_IS, THEN),
     ({'TZ': 'XYZ-5'}, False, ESCAPED, '17:58'),
     # a name that leads out of the place of the zones is none, and so is one that is not there
     ({'TZ': 'Asia/../Asia/Tokyo'}, False, ESCAPED, THEN),
@@ -278,6 +281,12 @@ def what_the_environment_says(server):
         last = next(line for line in ann.lines() if line.startswith('Welcome, ann'))
         same('with %r' % more, (BOLD in shown, 'caf' + letter in shown, ', %s, from' % clock in last, ' O You' in shown),
              (bold, True, True, True))
+        ann.quits()
+        ann.close()
+    for height in None, '0', 'low':
+        ann = greeted(server, TERM='xterm', LINES=height)
+        ann.type('board above')
+        ann.sees('How high is this terminal? rows 40 says it.')
         ann.quits()
         ann.close()
 
@@ -319,7 +328,21 @@ def the_clock_of_the_place(server):
             ann.close()
 
 
+@with_listener
+def a_pipe_is_no_time_zone(server):
+    """It is not waited for, and the clock shows UTC. (Python reads the zone as well, so `env` sets it for her alone.)"""
+    with tempfile.TemporaryDirectory() as room:
+        os.mkfifo(os.path.join(room, 'pipe'))
+        ann = greeted(server, Reader(['env', 'TZ=pipe', 'TZDIR=' + room, PROGRAM, 'connect', '--password-file',
+                                      PASSWORD_FILE, '127.0.0.1', str(server.port), 'ann']))
+        server.send('9 bob %d a word' % TIMES[0])
+        same('when', ann.reads(': a word'), 'bob left a message on 30 December 2002, 12:58: a word')
+        ann.quits()
+        ann.close()
+
+
 SCENES = [a_million_lines, letters_of_other_scripts, what_is_malformed_is_shown, a_flood_does_not_hold_a_typed_line,
           eight_megabytes_are_shown_whole, a_host_of_which_one_address_alone_answers,
           lines_that_are_pasted_are_all_answered, nothing_typed_is_lost_when_a_line_comes,
-          the_server_is_heard_after_a_stop, closed_in_mid_picture, what_the_environment_says, the_clock_of_the_place]
+          the_server_is_heard_after_a_stop, closed_in_mid_picture, what_the_environment_says, the_clock_of_the_place,
+          a_pipe_is_no_time_zone]

@@ -184,5 +184,17 @@ def a_home_that_is_not_known(server):
         same('lines', len(lines_of(pathlib.Path(home, '.local', 'share'))), 1)
 
 
+@with_listener
+def a_match_is_kept_though_she_leaves_before_it_is_rated(server):
+    with tempfile.TemporaryDirectory() as home:
+        ann = greeted(server, XDG_DATA_HOME=home)
+        server.send(BEGINS, ENDS)
+        ann.reads('invite bob 1 plays another match')
+        ann.quits()
+        ann.close()
+        same('the line', [fields[1:] for fields in lines_of(home)], [['bob', '1', '1-0', '1500.00', '-', '-']])
+
+
 SCENES = [a_match_is_rated_and_recorded, a_record_that_cant_be_written_is_said_once,
-          a_record_on_a_full_device_is_said_once, no_record_is_kept_if_the_settings_say_so, a_home_that_is_not_known]
+          a_record_on_a_full_device_is_said_once, no_record_is_kept_if_the_settings_say_so, a_home_that_is_not_known,
+          a_match_is_kept_though_she_leaves_before_it_is_rated]
