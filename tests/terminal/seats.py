@@ -19,6 +19,9 @@ AWAITS = 2.0
 # After so long without a row the player asks for help, and after so long the match stands still.
 ASKS, STUCK = 3.0, 7.0
 
+# Which board may be drawn again: one of so many before the board that was drawn last.
+AGAIN = 5
+
 # Said in the words of the server, by those who play.
 TALK = ['kibitz %s rejects. The game continues.', 'say %s accepts the double.', 'kibitz You give up. %s wins 1 point.',
         'shout %s drops connection. The game was saved.', 'say hello', 'whisper %s wants to resign.', 'players', 'help',
@@ -122,7 +125,7 @@ class Seat:
         self.decided = []
         # rows since the last move
         self.since_move, self.turns = None, []
-        self.read_to, self.of_picture = {}, ''
+        self.read_to, self.drawn_to, self.of_picture = {}, {}, ''
 
     def begin(self, port):
         self.fd, tty = os.openpty()
@@ -249,7 +252,8 @@ class Seat:
         return moments[min(first, len(moments) - 1):]
 
     def verdict(self, kind, row, lines):
-        """Whether a row is right: at one moment at least, since it may cross what has just happened."""
+        """Whether a row is right: at one moment at least, since it may cross what has just happened. It is untold if the
+        server waits for another line, and has not said so on this connection."""
         moments = self.moments()
         if kind in ('open', 'login'):
             # each password is right
@@ -274,7 +278,9 @@ class Seat:
             return 'right'
         if any(any(one) for one in taken):
             return 'one of two lines is not taken'
-        return 'wrong remedy' if any(one.must_act(self.name) for one in moments) else 'false'
+        if not any(one.must_act(self.name) for one in moments):
+            return 'false'
+        return 'wrong remedy' if all(self.was_told(one) for one in moments) else 'untold'
 
     def is_taken(self, moment, line):
         """True if the server would carry a line out, or has told the player so: a board whose flags allow a double says
@@ -292,14 +298,17 @@ class Seat:
     def judge(self, kind, row, lines):
         verdict = self.verdict(kind, row, lines)
         self.counts['row %s: %s' % (kind, verdict)] += 1
-        if verdict != 'right':
+        if verdict not in ('right', 'untold'):
             self.alarm(verdict, row)
 
     def judge_picture(self, picture):
         link = self.link()
         self.counts['pictures'] += 1
-        boards = link.boards[-6:] if link else []
-        if any(is_of(picture, board) for board in boards):
+        # on a slow wire the server is far ahead of the screen; and a board may be drawn again
+        first = max(0, self.drawn_to.get(link, 0) - AGAIN)
+        boards = link.boards[first:] if link else []
+        if found := [at for at, board in enumerate(boards, first) if is_of(picture, board)]:
+            self.drawn_to[link] = found[0]
             return
         if any(is_after(picture, board, self.steps_sent()) for board in boards):
             self.counts['pictures after a move that was sent'] += 1
