@@ -1,9 +1,14 @@
--- Lines that go as if the user had typed them, and which of them goes first (the project's own).
-use Rattle.std.specs.Prelude.{◌&&◌, ℕ, Bool, true, false, nat_le, length, List, codes, Option, Some, None, if◌then◌else◌}
+-- Lines that go as if the user had typed them: which of them goes first, and from where each portion of what is read
+-- comes (the project's own).
+use Rattle.std.specs.Prelude.{◌≡◌, ◌&&◌, ◌-◌, ◌^◌, ◌==◌, ℕ, Bool, true, false, nat_le, length, List, [], codes, Option, Some, None, is_some, slice_index, if◌then◌else◌}
+use Rattle.std.specs.Io.KnownBytes.{Consumes, IsAtEnd}
 use Rattle.fibs_terminal.specs.Fixing.{line_bytes}
 use Rattle.fibs_terminal.specs.declared.fixing.FixLine.{FixLine}
 use Rattle.fibs_terminal.specs.declared.ordering.Due.{Due}
 use Rattle.fibs_terminal.specs.declared.ordering.Due.TheVariants as D
+use Rattle.fibs_terminal.specs.declared.ordering.Origin.{Origin}
+use Rattle.fibs_terminal.specs.declared.ordering.Origin.TheVariants as O
+use Rattle.fibs_terminal.specs.declared.ordering.Pending.{Pending}
 
 -- all that goes so, each line with its end: none of them decides
 abbrev pub due_bytes : Due → List ℕ
@@ -23,14 +28,47 @@ due_fix None room = None
 due_fix (Some line) room = if fits (D.Fix line) true room then Some (D.Fix line) else None
 
 -- which goes first: the end, then `open`, the order, `board`, and a line of `fix`
-abbrev pub first_due : Bool → Bool → Bool → Bool → Option FixLine → ℕ → Option Due
-first_due ends opens order board fix room =
-    if fits D.End ends room then Some D.End else
-    if fits D.Open opens room then Some D.Open else
-    if fits D.Order order room then Some D.Order else
-    if fits D.Board board room then Some D.Board else due_fix fix room
+abbrev pub first_due : Pending → ℕ → Option Due
+first_due p room =
+    if fits D.End p.ends room then Some D.End else
+    if fits D.Open p.opens room then Some D.Open else
+    if fits D.Order p.order room then Some D.Order else
+    if fits D.Board p.board room then Some D.Board else due_fix p.fix room
+
+-- whether one is due: with room enough it goes
+abbrev pub is_any : Pending → Bool
+is_any p = is_some (first_due p (2 ^ 64 - 1))
+
+-- what is due once a line has gone: all else; the end stays
+abbrev pub without : Due → Pending → Pending
+without D.End p = p
+without D.Open p = record p { opens = false }
+without D.Order p = record p { order = false }
+without D.Board p = record p { board = false }
+without (D.Fix line) p = record p { fix = None }
+
+-- what is due once the server was dialed: the order, if it is asked for and there is a connection, and all else as
+-- before
+abbrev pub dialed : Bool → Bool → Pending → Pending
+dialed is_asked is_made p = record p { order = is_asked && is_made }
 
 -- what goes at the end of what is typed: a line that was begun is ended before it
 abbrev pub end_bytes : Bool → List ℕ
 end_bytes true = codes "quit\n"
 end_bytes false = codes "\nquit\n"
+
+-- whether a line has ended, once these bytes of what is typed were read
+abbrev pub is_ended : Bool → List ℕ → Bool
+is_ended before [] = before
+is_ended before bytes = slice_index bytes (length bytes - 1) == 10
+
+-- A portion of what is read is from there: it has these bytes, and there was room for so many. `before` and `after` say
+-- whether a line had ended, `left` and `rest` what of the typed bytes was left, if that is known.
+-- Between two lines alone a line that is due goes, whole, the first of those that are; nothing typed is read.
+-- The end goes once nothing typed is left.
+-- What is typed goes as it is.
+abbrev pub IsFrom : Origin → Bool → Bool → Option (List ℕ) → Option (List ℕ) → ℕ → List ℕ → Type 0
+IsFrom (O.Due due) before after left rest room bytes = (before ≡ true) × (after ≡ true) × (rest ≡ left)
+    × (bytes ≡ due_bytes due) × ((p : Pending) × (first_due p room ≡ Some due))
+IsFrom O.End before after left rest room bytes = (after ≡ true) × IsAtEnd rest × (bytes ≡ end_bytes before)
+IsFrom O.Typed before after left rest room bytes = Consumes left rest bytes × (after ≡ is_ended before bytes)

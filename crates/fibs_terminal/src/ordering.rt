@@ -2,8 +2,11 @@
 //! connection; `board`, if the user watches a game of which no board has come; the lines of `fix`; the end, if the
 //! server asks for the login once more; and `open` when the time has come at which the terminal connects again. Where a
 //! terminal is read, the end of what is typed goes as `quit` too.
-ghost use Rattle.std.specs.Prelude.{◌≡◌, ◌≢◌, ◌≤◌, IfSome, length, take, true};
-ghost use Rattle.fibs_terminal.specs.Dues.{due_bytes, due_fix, end_bytes, first_due, fits};
+ghost use Rattle.std.specs.Prelude.{◌≡◌, ◌≢◌, ◌≤◌, ◌+◌, None, IfNone, IfOk, IfSome, length, take, true};
+ghost use Rattle.std.specs.Duration.{as_nanos};
+ghost use Rattle.std.specs.Io.{ReadsAtMost};
+ghost use Rattle.std.specs.Io.KnownBytes.{ReadConsumes};
+ghost use Rattle.fibs_terminal.specs.Dues.{IsFrom, dialed, due_bytes, due_fix, end_bytes, first_due, fits, is_any, without};
 
 use crate::fixing::FixLine;
 use fibs_connect::watch::{First, Patience, Watch};
@@ -78,28 +81,64 @@ fn due_fix(fix: Option<FixLine>, room: usize) -> Option<Due>
     }
 }
 
-/// The line that goes first of those that are due and have room.
-fn first_due(
+/// What is due at one moment.
+#[derive(Clone, Copy, Debug, PartialEq, Eq)]
+struct Pending {
     ends: bool,
     opens: bool,
     order: bool,
     board: bool,
     fix: Option<FixLine>,
-    room: usize,
-) -> Option<Due>
-    ensures due { result ≡ first_due ends opens order board fix room }
-    ensures room { IfSome result (λ due. length (due_bytes due) ≤ room) }
-{
-    if Due::End.fits(ends, room) {
-        Some(Due::End)
-    } else if Due::Open.fits(opens, room) {
-        Some(Due::Open)
-    } else if Due::Order.fits(order, room) {
-        Some(Due::Order)
-    } else if Due::Board.fits(board, room) {
-        Some(Due::Board)
-    } else {
-        due_fix(fix, room)
+}
+
+impl Pending {
+    /// The line that goes first into a room of so many bytes.
+    fn first(self, room: usize) -> Option<Due>
+        ensures due { result ≡ first_due self room }
+        ensures room { IfSome result (λ due. length (due_bytes due) ≤ room) }
+    {
+        if Due::End.fits(self.ends, room) {
+            Some(Due::End)
+        } else if Due::Open.fits(self.opens, room) {
+            Some(Due::Open)
+        } else if Due::Order.fits(self.order, room) {
+            Some(Due::Order)
+        } else if Due::Board.fits(self.board, room) {
+            Some(Due::Board)
+        } else {
+            due_fix(self.fix, room)
+        }
+    }
+
+    /// Whether a line would go into a room, however large.
+    fn is_any(self) -> bool
+        ensures { result ≡ is_any self }
+    {
+        self.first(usize::MAX).is_some()
+    }
+
+    /// A line has gone: it is due no more. The end stays, whatever comes.
+    fn without(self, due: Due) -> Pending
+        ensures { result ≡ without due self }
+    {
+        let mut left = self;
+        match due {
+            Due::End => {}
+            Due::Open => left.opens = false,
+            Due::Order => left.order = false,
+            Due::Board => left.board = false,
+            Due::Fix(_) => left.fix = None,
+        }
+        left
+    }
+
+    /// The server was dialed: the order is due if it is asked for and there is a connection, and else no more.
+    fn dialed(self, is_asked: bool, is_made: bool) -> Pending
+        ensures { result ≡ dialed is_asked is_made self }
+    {
+        let mut left = self;
+        left.order = is_asked && is_made;
+        left
     }
 }
 
@@ -143,52 +182,50 @@ impl Dues {
         }
     }
 
-    /// The line that goes first into a room of so many bytes.
-    fn first(&self, room: usize) -> Option<Due>
-        ensures { IfSome result (λ due. length (due_bytes due) ≤ room) }
-    {
-        first_due(
-            self.end.get(),
-            self.open.get(),
-            self.order.get(),
-            self.board.get(),
-            self.fix.get(),
-            room,
-        )
-    }
-
-    /// A line has gone: it is due no more. The end stays, whatever comes.
-    fn take(&self, due: Due) {
-        match due {
-            Due::End => {}
-            Due::Open => self.open.set(false),
-            Due::Order => self.order.set(false),
-            Due::Board => self.board.set(false),
-            Due::Fix(_) => self.fix.set(None),
+    /// What is due now.
+    fn pending(&self) -> Pending {
+        Pending {
+            ends: self.end.get(),
+            opens: self.open.get(),
+            order: self.order.get(),
+            board: self.board.get(),
+            fix: self.fix.get(),
         }
     }
 
-    /// Whether a line is.
-    fn is_any(&self) -> bool {
-        self.order.get()
-            || self.board.get()
-            || self.fix.get().is_some()
-            || self.end.get()
-            || self.open.get()
+    /// From now on this is due.
+    fn set(&self, pending: Pending) {
+        self.end.set(pending.ends);
+        self.open.set(pending.opens);
+        self.order.set(pending.order);
+        self.board.set(pending.board);
+        self.fix.set(pending.fix);
     }
 
     /// How long it is until `open` is due; None if it never is. If it is due now, that is kept.
-    fn time_left<C: Clock>(&self, clock: &C) -> Option<Duration> {
+    fn time_left<C: Clock>(&self, clock: &C) -> Option<Duration>
+        ensures { IfSome result (λ left. as_nanos left ≢ 0) }
+    {
         let at = self.open_at.get()?;
         // by a clock that fails it is never due
         let now = clock.monotonic().unwrap_or(Duration::from_secs(0));
-        if now < at {
-            return Some(at.saturating_sub(now));
+        let left = time_until(now, at);
+        if left.is_none() {
+            self.open_at.set(None);
+            self.open.set(true);
         }
-        self.open_at.set(None);
-        self.open.set(true);
-        None
+        left
     }
+}
+
+/// How long it is from now until a time; None if it has come.
+fn time_until(now: Duration, at: Duration) -> Option<Duration>
+    ensures come { IfNone result (as_nanos at ≤ as_nanos now) }
+    ensures some { IfSome result (λ left. as_nanos left ≢ 0) }
+    ensures left { IfSome result (λ left. as_nanos now + as_nanos left ≡ as_nanos at) }
+{
+    let left = at.saturating_sub(now);
+    if left.is_zero() { None } else { Some(left) }
 }
 
 /// A server: whenever a connection to it is made the order is due, if it is asked for.
@@ -215,9 +252,28 @@ impl<'b, D: Dial> Dial for OrderedServer<'_, 'b, D> {
 
     fn dial(&mut self) -> Result<Refusing<'b, D::Stream>, ErrorKind> {
         let answer = self.server.dial();
-        self.dues.order.set(self.is_asked && answer.is_ok());
+        self.dues
+            .set(self.dues.pending().dialed(self.is_asked, answer.is_ok()));
         Ok(Refusing::new(answer?, &self.dues.end))
     }
+}
+
+/// Where a portion of what is read comes from.
+#[derive(Clone, Copy, Debug, PartialEq, Eq)]
+enum Origin {
+    /// It is a line that is due.
+    Due(Due),
+    /// It is what goes at the end of what is typed.
+    End,
+    /// It is typed.
+    Typed,
+}
+
+/// A portion of what is read: where it comes from, and how many bytes it has.
+#[derive(Clone, Copy, Debug, PartialEq, Eq)]
+struct Portion {
+    origin: Origin,
+    count: usize,
 }
 
 /// What is typed, and before the next line of it what is due.
@@ -251,6 +307,9 @@ impl<'a, 'b, R: Read> OrderedInput<'a, 'b, R> {
     fn put_end(&mut self, buf: &mut [u8]) -> usize
         ensures few { result ≤ length buf.new }
         ensures bytes { result ≢ 0 → take result buf.new ≡ end_bytes self.old.is_between_lines }
+        ensures ended { result ≢ 0 → self.new.is_between_lines ≡ true }
+        ensures none { result ≡ 0 → self.new.is_between_lines ≡ self.old.is_between_lines }
+        ensures rest { self.new ≡ record self.old { is_between_lines = self.new.is_between_lines } }
     {
         let text = if self.is_between_lines {
             QUIT
@@ -263,22 +322,52 @@ impl<'a, 'b, R: Read> OrderedInput<'a, 'b, R> {
         self.is_between_lines = true;
         put(text, buf)
     }
-}
 
-impl<R: Read> Read for OrderedInput<'_, '_, R> {
-    fn read(&mut self, buf: &mut [u8]) -> io::Result<usize> {
+    /// Puts the next portion there: between two lines one that is due, whole; else what is typed, or its end.
+    fn put_next(&mut self, buf: &mut [u8]) -> io::Result<Portion>
+        ensures bound { IfOk result (λ portion. portion.count ≤ length buf.new) }
+        ensures from { IfOk result (λ portion. IsFrom portion.origin self.old.is_between_lines
+            self.new.is_between_lines (R.remaining self.old.typed.now) (R.remaining self.new.typed.now)
+            (length buf.old) (take portion.count buf.new)) }
+    {
         if self.is_between_lines {
-            if let Some(due) = self.dues.first(buf.len()) {
-                self.dues.take(due);
-                return Ok(put(due.bytes(), buf));
+            let pending = self.dues.pending();
+            if let Some(due) = pending.first(buf.len()) {
+                self.dues.set(pending.without(due));
+                let count = put(due.bytes(), buf);
+                return Ok(Portion {
+                    origin: Origin::Due(due),
+                    count,
+                });
             }
         }
         let count = self.typed.read(buf)?;
         if count == 0 {
-            return Ok(self.put_end(buf));
+            let count = self.put_end(buf);
+            let origin = if count == 0 {
+                Origin::Typed
+            } else {
+                Origin::End
+            };
+            return Ok(Portion { origin, count });
         }
         self.is_between_lines = buf[count - 1] == b'\n';
-        Ok(count)
+        Ok(Portion {
+            origin: Origin::Typed,
+            count,
+        })
+    }
+}
+
+impl<R: Read> Read for OrderedInput<'_, '_, R> {
+    fn read(&mut self, buf: &mut [u8]) -> io::Result<usize>
+        ensures bound { ReadsAtMost result buf.new }
+        ensures bytes { ReadConsumes None None result buf.new }
+        ensures from { IfOk result (λ count. (origin : Origin) × IsFrom origin self.old.is_between_lines
+            self.new.is_between_lines (R.remaining self.old.typed.now) (R.remaining self.new.typed.now)
+            (length buf.old) (take count buf.new)) }
+    {
+        Ok(self.put_next(buf)?.count)
     }
 }
 
@@ -301,7 +390,7 @@ impl<V: Patience, C: Clock + Drop> Watch for OrderedWatch<'_, '_, V, C> {
     fn first(&mut self) -> First {
         for _ in 0..u64::MAX {
             let left = self.dues.time_left(&self.clock);
-            if self.dues.is_any() {
+            if self.dues.pending().is_any() {
                 return First::Typed;
             }
             let Some(time) = left else {
