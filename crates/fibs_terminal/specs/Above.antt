@@ -1,10 +1,14 @@
 -- What a terminal is sent so that the newest board stands in its upper rows, and what is said scrolls below (control
 -- sequences of ECMA-48: CUU, CUD, CUP, ED, EL and IL; DECSTBM, DECSC and DECRC of the VT100).
-use Rattle.std.specs.Prelude.{◌≡◌, ◌≤◌, ◌++◌, ◌+◌, ◌==◌, ℕ, List, [], ◌∷◌, Bool, true, false, codes, decimal, count_by, min, take, if◌then◌else◌}
+use Rattle.std.specs.Prelude.{◌≡◌, ◌≤◌, ◌++◌, ◌+◌, ◌==◌, ◌&&◌, ℕ, List, [], ◌∷◌, Bool, true, false, Option, Some, None, codes, count_by, decimal, min, nat_le, not, take, unwrap_or, if◌then◌else◌}
 use Rattle.fibs_lines.specs.Lines.{is_line_end}
 use Rattle.fibs_fields.specs.Board.{BoardFields}
+use Rattle.fibs_position.specs.GameOf.{game_of}
+use Rattle.fibs_position.specs.WatchedOf.{watched_of}
+use Rattle.fibs_position.specs.declared.game_board.GameBoard.{GameBoard}
+use Rattle.fibs_position.specs.declared.watched_board.WatchedBoard.{WatchedBoard}
 use Rattle.fibs_wording.specs.declared.environment.settings.Settings.{Settings}
-use Rattle.fibs_terminal.specs.Drawings.{Draws}
+use Rattle.fibs_terminal.specs.Drawings.{Draws, is_plain}
 use Rattle.fibs_terminal.specs.declared.drawing.above.Above.{Above}
 
 -- ---- what is sent
@@ -52,6 +56,13 @@ all_scroll = 27 ∷ (codes "7" ++ 27 ∷ (codes "[r" ++ 27 ∷ codes "8"))
 abbrev pub given_back : Above → List ℕ
 given_back a = if a.held == 0 then [] else all_scroll
 
+-- ---- when one is to stand there
+
+-- if there is room for it: the terminal can scroll below it, boards are drawn, and the user has asked for it, or, if he
+-- has said nothing, the terminal has 30 rows or more
+abbrev pub wants_above : Settings → Bool
+wants_above s = s.scrolls_below && (not s.words && unwrap_or s.above (nat_le 30 s.rows))
+
 -- ---- what stands there
 
 -- how many rows there are below at least, with the free one
@@ -76,3 +87,19 @@ pub record StandsNot (old now : Above) (before after : List ℕ) : Type 0 where
 abbrev pub StandsOrNot : Settings → Bool → Bool → BoardFields → Above → Above → List ℕ → List ℕ → Bool → Type 0
 StandsOrNot s watched wanted b old now before after true = Stands s watched wanted b old now before after
 StandsOrNot s watched wanted b old now before after false = StandsNot old now before after
+
+-- all rows scroll, unless a board is to stand there
+abbrev pub ScrollsUnless : Bool → Above → Above → List ℕ → List ℕ → Type 0
+ScrollsUnless true old now before after = (now ≡ old) × (after ≡ before)
+ScrollsUnless false old now before after = StandsNot old now before after
+
+-- the board that came last stands there or not: that of the game that is watched, else that of the user's own. If none
+-- has come, all rows scroll unless one is to stand there
+abbrev pub StandsAgain : Settings → Option WatchedBoard → Option GameBoard → Above → Above → List ℕ → List ℕ → Bool
+    → Type 0
+StandsAgain s (Some watched) game old now before after stands =
+    StandsOrNot s true false (watched_of watched) old now before after stands
+StandsAgain s None (Some game) old now before after stands =
+    StandsOrNot s false (is_plain s && false) (game_of game) old now before after stands
+StandsAgain s None None old now before after stands = (stands ≡ wants_above s)
+    × ScrollsUnless (wants_above s) old now before after

@@ -1,6 +1,9 @@
 //! Where the newest board stands: above what is said, or in its midst, as `board above`, `rows` and `columns` say.
-ghost use Rattle.std.specs.Prelude.{◌≡◌};
-ghost use Rattle.fibs_terminal.specs.OwnRows.{said_above, why_below};
+ghost use Rattle.std.specs.Prelude.{◌≡◌, IfOk, IfSome, None, OnOk, codes};
+ghost use Rattle.fibs_picture.specs.InWords.Rows.{Says};
+ghost use Rattle.fibs_wording.specs.SettingWords.{place_in};
+ghost use Rattle.fibs_terminal.specs.Above.{StandsAgain};
+ghost use Rattle.fibs_terminal.specs.OwnRows.{SaysPlace, own_columns, said_above, why_below};
 
 use crate::drawing::{end_text, is_wanted};
 use crate::own_rows::say_rows;
@@ -48,12 +51,12 @@ fn why_below(settings: &Settings<'_>) -> &'static [u8]
 
 /// What is said once the user has asked for the newest board to stand above: whether it does, or, if none has come, is
 /// to.
-fn said_above(is_held: bool, is_wanted: bool, settings: &Settings<'_>) -> &'static [u8]
-    ensures { result.now ≡ said_above is_held is_wanted settings.now }
+fn said_above(is_held: bool, stands: bool, settings: &Settings<'_>) -> &'static [u8]
+    ensures { result.now ≡ said_above is_held stands settings.now }
 {
     if is_held {
         ABOVE
-    } else if is_wanted && settings.rows != 0 {
+    } else if stands && settings.rows != 0 {
         NEXT
     } else {
         why_below(settings)
@@ -73,7 +76,11 @@ impl<'a> Screen<'a> {
     /// Has the newest board stand above, if it is to and can; else all rows scroll. True unless there is no room for
     /// it.
     fn stand_again(&mut self) -> Result<bool, AllocError>
-        ensures { self.new.memory.here ≡ self.old.memory.here }
+        ensures stands { IfOk result (StandsAgain self.old.page.settings self.old.memory.here.watching.heard
+            self.old.memory.here.table.boards.heard self.old.memory.program.above self.new.memory.program.above
+            self.old.page.text.items self.new.page.text.items) }
+        ensures settings { self.new.page.settings ≡ self.old.page.settings }
+        ensures here { self.new.memory.here ≡ self.old.memory.here }
     {
         let here = &self.memory.here;
         let above = &mut self.memory.program.above;
@@ -84,10 +91,11 @@ impl<'a> Screen<'a> {
         if here.table.boards.phase().is_some() {
             return here.table.boards.stand(above, page);
         }
-        if !is_wanted(&page.settings) {
+        let stands = is_wanted(&page.settings);
+        if !stands {
             page.say(above.give_back())?;
         }
-        Ok(is_wanted(&page.settings))
+        Ok(stands)
     }
 
     /// The same after the size of the terminal has changed, if a board stood above: then nothing is said.
@@ -134,16 +142,23 @@ impl<'a> Screen<'a> {
 
     /// The newest board stands above from now on, or scrolls.
     pub(crate) fn place_board(&mut self, rest: &[u8]) -> Result<(), AllocError>
-        ensures { self.new.memory.here ≡ self.old.memory.here }
+        ensures which { place_in rest.now ≡ None → OnOk result (Says (own_columns self.old.page.settings)
+            (codes "board, board above, or board below.\n") self.old.page.text.items self.new.page.text.items) }
+        ensures kept { place_in rest.now ≡ None → self.new.page.settings ≡ self.old.page.settings }
+        ensures placed { IfSome (place_in rest.now) (λ above. OnOk result (SaysPlace above self.old.page.settings
+            self.new.page.settings self.old.memory.here.watching.heard self.old.memory.here.table.boards.heard
+            self.old.memory.program.above self.new.memory.program.above self.old.page.text.items
+            self.new.page.text.items)) }
+        ensures here { self.new.memory.here ≡ self.old.memory.here }
     {
         let Some(is_above) = read_place(rest) else {
             return say_rows(WHICH_PLACE, &mut self.page);
         };
         self.page.settings.above = Some(is_above);
-        let is_wanted = self.stand_again()?;
+        let stands = self.stand_again()?;
         let is_held = self.memory.program.above.is_held();
         let said = if is_above {
-            said_above(is_held, is_wanted, &self.page.settings)
+            said_above(is_held, stands, &self.page.settings)
         } else {
             BELOW
         };

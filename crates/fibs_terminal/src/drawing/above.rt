@@ -11,7 +11,7 @@ ghost use Rattle.std.specs.Prelude.{◌≡◌, ◌≢◌, ◌≤◌, ◌↔◌, 
 ghost use Rattle.fibs_lines.specs.Lines.{is_line_end};
 ghost use Rattle.fibs_position.specs.GameOf.{game_of};
 ghost use Rattle.fibs_position.specs.WatchedOf.{watched_of};
-ghost use Rattle.fibs_terminal.specs.Above.{StandsNot, StandsOrNot, control, frees_below, frees_upper, given_back, moves_down, placed};
+ghost use Rattle.fibs_terminal.specs.Above.{StandsNot, StandsOrNot, control, frees_below, frees_upper, given_back, moves_down, placed, wants_above};
 ghost use Rattle.fibs_terminal.specs.Drawings.{is_plain};
 
 use crate::drawing::picture::append_marked;
@@ -58,7 +58,8 @@ pub struct Above {
 
 /// Whether the newest board is to stand above, if there is room: if the user has said so, else if the terminal is high.
 pub(crate) fn is_wanted(settings: &Settings<'_>) -> bool
-    ensures { result ≡ true → settings.now.words ≡ false }
+    ensures wanted { result ≡ wants_above settings.now }
+    ensures words { result ≡ true → settings.now.words ≡ false }
 {
     settings.scrolls_below && !settings.words && settings.above.unwrap_or(settings.rows >= HIGH)
 }
@@ -192,8 +193,9 @@ impl Above {
         arrivals: &Arrivals,
         page: &mut Page<'_>,
     ) -> Result<bool, AllocError>
-        ensures { IfOk result (StandsOrNot page.old.settings false (is_plain page.old.settings && false)
+        ensures stands { IfOk result (StandsOrNot page.old.settings false (is_plain page.old.settings && false)
             (game_of game.now) self.old self.new page.old.text.items page.new.text.items) }
+        ensures settings { page.new.settings ≡ page.old.settings }
     {
         let alloc = page.alloc;
         if is_wanted(&page.settings) {
@@ -215,8 +217,9 @@ impl Above {
         watched: &WatchedBoard,
         page: &mut Page<'_>,
     ) -> Result<bool, AllocError>
-        ensures { IfOk result (StandsOrNot page.old.settings true false (watched_of watched.now)
+        ensures stands { IfOk result (StandsOrNot page.old.settings true false (watched_of watched.now)
             self.old self.new page.old.text.items page.new.text.items) }
+        ensures settings { page.new.settings ≡ page.old.settings }
     {
         let alloc = page.alloc;
         if is_wanted(&page.settings) {

@@ -316,9 +316,10 @@ impl Boards {
 
     /// Has the board that came last stand above, if it is to and can. False if none has come.
     pub(crate) fn stand(&self, above: &mut Above, page: &mut Page<'_>) -> Result<bool, AllocError>
-        ensures { IfSome self.now.heard (λ heard. IfOk result (StandsOrNot page.old.settings false
+        ensures stands { IfSome self.now.heard (λ heard. IfOk result (StandsOrNot page.old.settings false
             (is_plain page.old.settings && false) (game_of heard) above.old above.new
             page.old.text.items page.new.text.items)) }
+        ensures settings { page.new.settings ≡ page.old.settings }
     {
         match &self.heard {
             None => Ok(false),

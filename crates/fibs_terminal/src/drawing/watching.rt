@@ -1,10 +1,11 @@
 //! What a terminal shows of a game that the user watches.
-ghost use Rattle.std.specs.Prelude.{◌≡◌, ◌⊎◌, ◌↔◌, ◌++◌, IsTrue, List, ℕ, None, OnOk, Some, false, take, true};
+ghost use Rattle.std.specs.Prelude.{◌≡◌, ◌⊎◌, ◌↔◌, ◌++◌, IfOk, IfSome, IsTrue, List, ℕ, None, OnOk, Some, false, take, true};
 ghost use Rattle.std.specs.Option.{option_copied};
 ghost use Rattle.fibs_fields.specs.StoredBoard.{fields_of};
 ghost use Rattle.fibs_position.specs.WatchedOf.{watched_of};
 ghost use Rattle.fibs_picture.specs.InWords.Rows.{Says};
 ghost use Rattle.fibs_picture.specs.declared.in_words.told.Told.TheVariants as T;
+ghost use Rattle.fibs_terminal.specs.Above.{StandsOrNot};
 ghost use Rattle.fibs_terminal.specs.Boxes.{begun_watching, nothing_watched};
 ghost use Rattle.fibs_terminal.specs.Drawings.{Draws, told_before};
 ghost use Rattle.fibs_terminal.specs.OwnRows.{own_columns};
@@ -199,7 +200,11 @@ impl Watching {
     }
 
     /// Has the board that came last stand above, if it is to and can. False if none has come.
-    pub fn stand(&self, above: &mut Above, page: &mut Page<'_>) -> Result<bool, AllocError> {
+    pub fn stand(&self, above: &mut Above, page: &mut Page<'_>) -> Result<bool, AllocError>
+        ensures stands { IfSome self.now.heard (λ heard. IfOk result (StandsOrNot page.old.settings true false
+            (watched_of heard) above.old above.new page.old.text.items page.new.text.items)) }
+        ensures settings { page.new.settings ≡ page.old.settings }
+    {
         match &self.heard {
             None => Ok(false),
             Some(heard) => above.stand_watched(heard, page),

@@ -1,6 +1,6 @@
 //! A file of the user's own settings.
 ghost use Rattle.std.specs.Prelude.{◌≡◌};
-ghost use Rattle.fibs_wording.specs.SettingWords.{numbers_in};
+ghost use Rattle.fibs_wording.specs.SettingWords.{numbers_in, place_in};
 
 use fibs_fields::split::split;
 use fibs_position::Numbers;
@@ -79,7 +79,9 @@ pub fn read_numbers(word: &[u8]) -> Option<Numbers>
 }
 
 /// Whether a word says that the newest board stands above what is said, or scrolls with it below: `above` or `below`.
-pub fn read_place(word: &[u8]) -> Option<bool> {
+pub fn read_place(word: &[u8]) -> Option<bool>
+    ensures { result ≡ place_in word.now }
+{
     match word {
         b"above" => Some(true),
         b"below" => Some(false),
