@@ -239,6 +239,10 @@ def what_one_has_turned_off_and_on_again_oneself_is_turned_off_by_fix(table):
     ann.advised('auto', 'fix')
     ann.type('toggle automove')
     ann.reads("** Forced moves won't be done automatically.")
+    # it is off, and counts until the next login
+    ann.type('invite bob 3')
+    ann.reads('You logged in with automove or greedy on: fix logs in again.')
+    ann.reads('The same line again goes out.')
     ann.type('send toggle automove')
     ann.reads('** Forced moves will be done automatically.')
     ann.type('fix')

@@ -138,7 +138,8 @@ impl Row {
                 b"Not logged in: wrong name or password? If nothing follows, type quit.\n",
             Row::Undoubled => b"Your turn: roll; the server refused a double in this game.\n",
             Row::Accepted => b"Your turn: roll; your double is accepted.\n",
-            Row::ServerPlays => b"The server plays for you: fix turns it off, and logs in again.\n",
+            Row::ServerPlays =>
+                b"You logged in with automove or greedy on: fix turns it off, and logs in again.\n",
             Row::Resigns | Row::Concedes => b" offers to resign: accept, or reject.\n",
             Row::Owes => b" waits for your answer: accept, or reject.\n",
             Row::Unsettled => b" may wait for your answer: accept, or reject.\n",

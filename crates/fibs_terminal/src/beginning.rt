@@ -24,8 +24,11 @@ use fibs_session::typed::typing::{Typed, read_typed};
 use fibs_session::{Client, Directory, Plain};
 use std::alloc::AllocError;
 
-/// What is asked.
+/// What is asked, if the server plays now, and if it did at the login alone.
 const ASKED: &[u8] = b"The server plays for you: fix turns it off; the same line again goes out.\n";
+
+const ASKED_OFF: &[u8] = b"You logged in with automove or greedy on: fix logs in again.\n\
+The same line again goes out.\n";
 
 /// Whether a command begins a match.
 fn is_beginning(plain: &Plain<'_>) -> bool
@@ -115,7 +118,12 @@ impl<'a> Screen<'a> {
         let begins = begins(client, line.as_slice());
         if is_asked_now(plays, before, wish, begins) {
             self.memory.here.is_warned = true;
-            say_rows(ASKED, &mut self.page)?;
+            let asked = if self.memory.here.toggles.any_on() {
+                ASKED
+            } else {
+                ASKED_OFF
+            };
+            say_rows(asked, &mut self.page)?;
             return Ok(Wish::Answered);
         }
         self.memory.here.is_warned = before;

@@ -613,7 +613,7 @@ static LOGINS: [Scene; 6] = [
     ),
     (
         &[Cue::Loses, Cue::Opens, Cue::Hears(WELCOME), Cue::Hears(AUTOMOVE), Cue::Hears(TO_ROLL), Cue::Rests],
-        "The server plays for you: fix turns it off, and logs in again.\n",
+        "You logged in with automove or greedy on: fix turns it off, and logs in again.\n",
     ),
     (
         &[
@@ -625,7 +625,8 @@ static LOGINS: [Scene; 6] = [
             Cue::Types(b"roll"),
             Cue::Rests,
         ],
-        "automove or greedy is on. [4 ServerPlays]\nThe server plays for you: fix turns it off, and logs in again.\n",
+        "greedy was on at login. [4 ServerPlays]\n\
+You logged in with automove or greedy on: fix turns it off, and logs in again.\n",
     ),
     (
         &[
@@ -638,7 +639,7 @@ static LOGINS: [Scene; 6] = [
             Cue::Types(b"toggle automove"),
             Cue::Rests,
         ],
-        "[10 NotOn]\nThe server plays for you: fix turns it off, and logs in again.\n",
+        "[10 NotOn]\nYou logged in with automove or greedy on: fix turns it off, and logs in again.\n",
     ),
 ];
 
@@ -667,7 +668,7 @@ static ASKED: [(&[u8], &str); 4] = [
 /// By the settings of this login: those of the one before say nothing of it.
 #[test]
 fn that_the_server_plays_is_said_if_it_does_and_only_then() {
-    const ROW: &str = "The server plays for you: fix turns it off, and logs in again.\n";
+    const ROW: &str = "You logged in with automove or greedy on: fix turns it off, and logs in again.\n";
     let logs_in = |settings| [Cue::Loses, Cue::Opens, Cue::Hears(WELCOME), Cue::Hears(settings)];
     for (settings, plays) in PLAYING {
         for (board, hint) in ASKED {

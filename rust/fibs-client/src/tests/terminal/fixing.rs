@@ -171,6 +171,15 @@ fn who_begins_a_match_is_asked_once() {
     // also if he has turned it on himself, and not if it is off
     let on = [Types(b"send toggle automove"), Cue::Hears(FORCED), Types(b"invite bob 3")];
     assert_ends(plain_settings(), &[Cue::Hears(WELCOME), Cue::Hears(SETTINGS)], &on, ASKED);
+    // and if he has turned it off since the login: he can't decide before the next one
+    let since = [
+        Types(b"toggle greedy"),
+        Cue::Hears(b"** Won't use automatic greedy bearoffs.\r\n"),
+        Cue::Rests,
+        Types(b"invite bob 3"),
+    ];
+    let row = "\nYou logged in with automove or greedy on: fix logs in again.\nThe same line again goes out.\n";
+    assert_ends(plain_settings(), &[Cue::Hears(WELCOME), Cue::Hears(GREEDY), Cue::Rests], &since, row);
     let off = [Types(b"invite bob 3")];
     assert_ends(plain_settings(), &[Cue::Hears(WELCOME), Cue::Hears(SETTINGS)], &off, "\nsent invite bob 3\n");
 }
