@@ -1,6 +1,6 @@
 -- Lines that go as if the user had typed them: which of them goes first, and from where each portion of what is read
 -- comes (the project's own).
-use Rattle.std.specs.Prelude.{◌≡◌, ◌&&◌, ◌-◌, ◌^◌, ◌==◌, ℕ, Bool, true, false, nat_le, length, List, [], codes, Option, Some, None, is_some, slice_index, if◌then◌else◌}
+use Rattle.std.specs.Prelude.{◌≡◌, ◌≢◌, ◌<◌, ◌≤◌, ◌&&◌, ◌||◌, ◌-◌, ◌==◌, ℕ, Bool, true, false, nat_le, length, List, [], codes, Option, Some, None, is_some, slice_index, if◌then◌else◌}
 use Rattle.std.specs.Io.KnownBytes.{Consumes, IsAtEnd}
 use Rattle.fibs_terminal.specs.Fixing.{line_bytes}
 use Rattle.fibs_terminal.specs.declared.fixing.FixLine.{FixLine}
@@ -35,9 +35,9 @@ first_due p room =
     if fits D.Order p.order room then Some D.Order else
     if fits D.Board p.board room then Some D.Board else due_fix p.fix room
 
--- whether one is due: with room enough it goes
+-- whether a line is due
 abbrev pub is_any : Pending → Bool
-is_any p = is_some (first_due p (2 ^ 64 - 1))
+is_any p = p.ends || (p.opens || (p.order || (p.board || is_some p.fix)))
 
 -- what is due once a line has gone: all else; the end stays
 abbrev pub without : Due → Pending → Pending
@@ -62,13 +62,21 @@ abbrev pub is_ended : Bool → List ℕ → Bool
 is_ended before [] = before
 is_ended before bytes = slice_index bytes (length bytes - 1) == 10
 
--- A portion of what is read is from there: it has these bytes, and there was room for so many. `before` and `after` say
--- whether a line had ended, `left` and `rest` what of the typed bytes was left, if that is known.
--- Between two lines alone a line that is due goes, whole, the first of those that are; nothing typed is read.
--- The end goes once nothing typed is left.
--- What is typed goes as it is.
-abbrev pub IsFrom : Origin → Bool → Bool → Option (List ℕ) → Option (List ℕ) → ℕ → List ℕ → Type 0
-IsFrom (O.Due due) before after left rest room bytes = (before ≡ true) × (after ≡ true) × (rest ≡ left)
-    × (bytes ≡ due_bytes due) × ((p : Pending) × (first_due p room ≡ Some due))
-IsFrom O.End before after left rest room bytes = (after ≡ true) × IsAtEnd rest × (bytes ≡ end_bytes before)
-IsFrom O.Typed before after left rest room bytes = Consumes left rest bytes × (after ≡ is_ended before bytes)
+-- what is typed is read, or its end goes: no line that is due goes before it
+abbrev pub IsNoneFirst : Pending → Bool → ℕ → Type 0
+IsNoneFirst p before room = before ≡ true → first_due p room ≡ None
+
+-- A portion of what is read is from there, and has these bytes. `p` is what is due, `quits` whether the end goes as
+-- `quit`, `before` and `after` whether a line has ended, `left` and `rest` what is left of the typed bytes, if that is
+-- known, and `room` how many bytes there is room for.
+-- Between two lines alone a line goes that is due, the first one, whole; nothing that is typed is read.
+-- The end goes once nothing typed is left, if it is to and has room.
+-- What is typed goes as it is, with no bytes only at its end or without room.
+abbrev pub IsFrom : Pending → Bool → Origin → Bool → Bool → Option (List ℕ) → Option (List ℕ) → ℕ → List ℕ → Type 0
+IsFrom p quits (O.Due due) before after left rest room bytes = (before ≡ true) × (first_due p room ≡ Some due)
+    × (bytes ≡ due_bytes due) × (after ≡ true) × (rest ≡ left)
+IsFrom p quits O.End before after left rest room bytes = IsNoneFirst p before room × (quits ≡ true)
+    × Consumes left rest [] × IsAtEnd rest × (bytes ≡ end_bytes before) × (after ≡ true)
+IsFrom p quits O.Typed before after left rest room bytes = IsNoneFirst p before room
+    × Consumes left rest bytes × (bytes ≡ [] → 0 < room → IsAtEnd rest)
+    × (quits ≡ true → length (end_bytes before) ≤ room → bytes ≢ []) × (after ≡ is_ended before bytes)

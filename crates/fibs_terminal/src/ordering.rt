@@ -2,7 +2,7 @@
 //! connection; `board`, if the user watches a game of which no board has come; the lines of `fix`; the end, if the
 //! server asks for the login once more; and `open` when the time has come at which the terminal connects again. Where a
 //! terminal is read, the end of what is typed goes as `quit` too.
-ghost use Rattle.std.specs.Prelude.{◌≡◌, ◌≢◌, ◌≤◌, ◌+◌, None, IfNone, IfOk, IfSome, length, take, true};
+ghost use Rattle.std.specs.Prelude.{◌≡◌, ◌≢◌, ◌≤◌, ◌+◌, None, IfNone, IfOk, IfSome, OnErr, false, length, take, true};
 ghost use Rattle.std.specs.Duration.{as_nanos};
 ghost use Rattle.std.specs.Io.{ReadsAtMost};
 ghost use Rattle.std.specs.Io.KnownBytes.{ReadConsumes};
@@ -289,7 +289,10 @@ pub struct OrderedInput<'a, 'b, R: Read> {
 
 impl<'a, 'b, R: Read> OrderedInput<'a, 'b, R> {
     /// What is typed, of which no line is begun.
-    pub fn new(typed: &'a mut R, dues: &'b Dues) -> OrderedInput<'a, 'b, R> {
+    pub fn new(typed: &'a mut R, dues: &'b Dues) -> OrderedInput<'a, 'b, R>
+        ensures lines { result.is_between_lines ≡ true }
+        ensures quits { result.quits_at_end ≡ false }
+    {
         OrderedInput {
             typed,
             dues,
@@ -299,7 +302,9 @@ impl<'a, 'b, R: Read> OrderedInput<'a, 'b, R> {
     }
 
     /// From now on its end (Ctrl-D) goes as `quit`: it is a terminal, which can be read again after it.
-    pub fn quit_at_end(&mut self) {
+    pub fn quit_at_end(&mut self)
+        ensures { self.new ≡ record self.old { quits_at_end = true } }
+    {
         self.quits_at_end = true;
     }
 
@@ -307,8 +312,11 @@ impl<'a, 'b, R: Read> OrderedInput<'a, 'b, R> {
     fn put_end(&mut self, buf: &mut [u8]) -> usize
         ensures few { result ≤ length buf.new }
         ensures bytes { result ≢ 0 → take result buf.new ≡ end_bytes self.old.is_between_lines }
+        ensures quits { result ≢ 0 → self.old.quits_at_end ≡ true }
         ensures ended { result ≢ 0 → self.new.is_between_lines ≡ true }
         ensures none { result ≡ 0 → self.new.is_between_lines ≡ self.old.is_between_lines }
+        ensures goes { self.old.quits_at_end ≡ true → length (end_bytes self.old.is_between_lines) ≤ length buf.old →
+            result ≢ 0 }
         ensures rest { self.new ≡ record self.old { is_between_lines = self.new.is_between_lines } }
     {
         let text = if self.is_between_lines {
@@ -324,16 +332,16 @@ impl<'a, 'b, R: Read> OrderedInput<'a, 'b, R> {
     }
 
     /// Puts the next portion there: between two lines one that is due, whole; else what is typed, or its end.
-    fn put_next(&mut self, buf: &mut [u8]) -> io::Result<Portion>
+    fn put_next(&mut self, pending: Pending, buf: &mut [u8]) -> io::Result<Portion>
         ensures bound { IfOk result (λ portion. portion.count ≤ length buf.new) }
-        ensures from { IfOk result (λ portion. IsFrom portion.origin self.old.is_between_lines
-            self.new.is_between_lines (R.remaining self.old.typed.now) (R.remaining self.new.typed.now)
-            (length buf.old) (take portion.count buf.new)) }
+        ensures from { IfOk result (λ portion. IsFrom pending self.old.quits_at_end portion.origin
+            self.old.is_between_lines self.new.is_between_lines (R.remaining self.old.typed.now)
+            (R.remaining self.new.typed.now) (length buf.old) (take portion.count buf.new)) }
+        ensures failed { OnErr result (self.new.is_between_lines ≡ self.old.is_between_lines) }
+        ensures quits { self.new.quits_at_end ≡ self.old.quits_at_end }
     {
         if self.is_between_lines {
-            let pending = self.dues.pending();
             if let Some(due) = pending.first(buf.len()) {
-                self.dues.set(pending.without(due));
                 let count = put(due.bytes(), buf);
                 return Ok(Portion {
                     origin: Origin::Due(due),
@@ -363,11 +371,18 @@ impl<R: Read> Read for OrderedInput<'_, '_, R> {
     fn read(&mut self, buf: &mut [u8]) -> io::Result<usize>
         ensures bound { ReadsAtMost result buf.new }
         ensures bytes { ReadConsumes None None result buf.new }
-        ensures from { IfOk result (λ count. (origin : Origin) × IsFrom origin self.old.is_between_lines
-            self.new.is_between_lines (R.remaining self.old.typed.now) (R.remaining self.new.typed.now)
-            (length buf.old) (take count buf.new)) }
+        ensures from { IfOk result (λ count. (pending : Pending) × (origin : Origin)
+            × IsFrom pending self.old.quits_at_end origin self.old.is_between_lines self.new.is_between_lines
+            (R.remaining self.old.typed.now) (R.remaining self.new.typed.now) (length buf.old) (take count buf.new)) }
+        ensures failed { OnErr result (self.new.is_between_lines ≡ self.old.is_between_lines) }
+        ensures quits { self.new.quits_at_end ≡ self.old.quits_at_end }
     {
-        Ok(self.put_next(buf)?.count)
+        let pending = self.dues.pending();
+        let portion = self.put_next(pending, buf)?;
+        if let Origin::Due(due) = portion.origin {
+            self.dues.set(pending.without(due));
+        }
+        Ok(portion.count)
     }
 }
 

@@ -195,6 +195,41 @@ fn read_past_end(typed: &[u8], reads: usize) -> String {
     String::from_utf8(text).expect("ASCII")
 }
 
+/// Of lines that are due at once one goes by each read, and leaves the others due; the end goes before all of them, and
+/// stays.
+#[test]
+fn lines_that_are_due_at_once_go_one_by_one() {
+    let rows: [(bool, &[&[u8]]); 2] =
+        [(false, &[b"open\n", b"order roll\n", b"board\n", b"bye\n", b"roll\n"]), (true, &[b"quit\n", b"quit\n", b"quit\n"])];
+    for (ends, wanted) in rows {
+        let dues = Dues::new();
+        for due in [&dues.open, &dues.order, &dues.board] {
+            due.set(true);
+        }
+        dues.fix.set(Some(FixLine::Bye));
+        dues.end.set(ends);
+        let mut pipe = Pipe::new(b"roll\n", 9, After::End, 0);
+        let (mut input, mut room) = (OrderedInput::new(&mut pipe, &dues), [0; 64]);
+        for wanted in wanted {
+            let count = input.read(&mut room).expect("it is read");
+            assert_eq!(room[..count].escape_ascii().to_string(), wanted.escape_ascii().to_string());
+        }
+        assert_eq!((dues.end.get(), dues.open.get(), dues.fix.get().is_some()), (ends, ends, ends));
+    }
+}
+
+/// The program says that its input is a terminal once the password was read, behind which a line may be begun.
+#[test]
+fn the_end_of_a_terminal_ends_a_line_that_was_begun_before() {
+    let dues = Dues::new();
+    let mut pipe = Pipe::new(b"rol", 9, After::End, 0);
+    let (mut input, mut room) = (OrderedInput::new(&mut pipe, &dues), [0; 64]);
+    assert_eq!(input.read(&mut room).expect("it is read"), 3);
+    input.quit_at_end();
+    let count = input.read(&mut room).expect("it is read");
+    assert_eq!(&room[..count], b"\nquit\n");
+}
+
 /// At a terminal the end goes as `quit`, each time, and ends a line that was begun.
 #[test]
 fn the_end_of_a_terminal_goes_as_quit() {
