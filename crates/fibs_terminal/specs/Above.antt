@@ -1,6 +1,6 @@
 -- What a terminal is sent so that the newest board stands in its upper rows, and what is said scrolls below (control
 -- sequences of ECMA-48: CUU, CUD, CUP, ED, EL and IL; DECSTBM, DECSC and DECRC of the VT100).
-use Rattle.std.specs.Prelude.{◌≡◌, ◌≤◌, ◌++◌, ◌+◌, ◌==◌, ◌&&◌, ℕ, List, [], ◌∷◌, Bool, true, false, Option, Some, None, codes, count_by, decimal, min, nat_le, not, take, unwrap_or, if◌then◌else◌}
+use Rattle.std.specs.Prelude.{◌≡◌, ◌≤◌, ◌++◌, ◌+◌, ◌==◌, ◌-◌, ◌&&◌, ◌||◌, ℕ, List, [], ◌∷◌, Bool, true, false, Option, Some, None, codes, count_by, decimal, max, min, nat_le, nat_lt, not, take, unwrap_or, if◌then◌else◌}
 use Rattle.fibs_lines.specs.Lines.{is_line_end}
 use Rattle.fibs_fields.specs.Board.{BoardFields}
 use Rattle.fibs_position.specs.GameOf.{game_of}
@@ -58,8 +58,8 @@ given_back a = if a.held == 0 then [] else all_scroll
 
 -- ---- when one is to stand there
 
--- if there is room for it: the terminal can scroll below it, boards are drawn, and the user has asked for it, or, if he
--- has said nothing, the terminal has 30 rows or more
+-- it is to: the terminal can scroll below it, boards are drawn, and the user has asked for it, or, if he has said
+-- nothing, the terminal has 30 rows or more
 abbrev pub wants_above : Settings → Bool
 wants_above s = s.scrolls_below && (not s.words && unwrap_or s.above (nat_le 30 s.rows))
 
@@ -83,23 +83,39 @@ pub record StandsNot (old now : Above) (before after : List ℕ) : Type 0 where
   pub held : now.held ≡ 0
   pub text_is : after ≡ before ++ given_back old
 
--- one of the two
-abbrev pub StandsOrNot : Settings → Bool → Bool → BoardFields → Above → Above → List ℕ → List ℕ → Bool → Type 0
-StandsOrNot s watched wanted b old now before after true = Stands s watched wanted b old now before after
-StandsOrNot s watched wanted b old now before after false = StandsNot old now before after
+-- the terminal has no room for a picture of so many rows, of which as many are kept as were before
+abbrev pub has_no_room : ℕ → Above → Settings → Bool
+has_no_room rows old s = nat_lt 99 (max rows old.held) || nat_lt s.rows (max rows old.held + least_below)
 
--- all rows scroll, unless a board is to stand there
+-- its picture has no room
+pub record HasNoRoom (s : Settings) (watched wanted : Bool) (b : BoardFields) (old : Above) : Type 0 where
+  pub picture : List ℕ
+  pub drawn : Draws s watched wanted b picture
+  pub lacks : has_no_room (count_by is_line_end picture) old s ≡ true
+
+-- one of the two: it stands there if it is to, and does not if it is not to or has no room
+abbrev pub StandsOrNot : Settings → Bool → Bool → BoardFields → Above → Above → List ℕ → List ℕ → Bool → Type 0
+StandsOrNot s watched wanted b old now before after true = (wants_above s ≡ true)
+    × Stands s watched wanted b old now before after
+StandsOrNot s watched wanted b old now before after false = (wants_above s ≡ true → HasNoRoom s watched wanted b old)
+    × StandsNot old now before after
+
+-- the rows that are kept leave room below
+abbrev pub leaves_room : Above → Settings → Bool
+leaves_room a s = nat_le a.held (s.rows - least_below)
+
+-- all rows scroll, unless this is true: then nothing changes
 abbrev pub ScrollsUnless : Bool → Above → Above → List ℕ → List ℕ → Type 0
 ScrollsUnless true old now before after = (now ≡ old) × (after ≡ before)
 ScrollsUnless false old now before after = StandsNot old now before after
 
 -- the board that came last stands there or not: that of the game that is watched, else that of the user's own. If none
--- has come, all rows scroll unless one is to stand there
+-- is known, all rows scroll unless one is to stand there, and what stands there leaves room below
 abbrev pub StandsAgain : Settings → Option WatchedBoard → Option GameBoard → Above → Above → List ℕ → List ℕ → Bool
     → Type 0
 StandsAgain s (Some watched) game old now before after stands =
     StandsOrNot s true false (watched_of watched) old now before after stands
 StandsAgain s None (Some game) old now before after stands =
     StandsOrNot s false (is_plain s && false) (game_of game) old now before after stands
-StandsAgain s None None old now before after stands = (stands ≡ wants_above s)
-    × ScrollsUnless (wants_above s) old now before after
+StandsAgain s None None old now before after stands = (stands ≡ wants_above s && leaves_room old s)
+    × ScrollsUnless stands old now before after

@@ -20,8 +20,8 @@ why_below s =
     if s.rows == 0 then codes "How high is this terminal? rows 40 says it.\n" else
     codes "This terminal is too low for a board above: it scrolls.\n"
 
--- what is said once the user has asked for it: that it stands above; if no board has come, that the next ones will if
--- they have room, of which nothing is known if the terminal has not said how high it is; or why it does not
+-- what is said once the user has asked for it: that it stands above; if no board is known, that the next ones will, if
+-- they have room; or why it does not. Before the terminal has said how high it is, nothing is said of room
 abbrev pub said_above : Bool → Bool → Settings → List ℕ
 said_above held stands s =
     if held then codes "The newest board stands above now: board below lets it scroll.\n" else

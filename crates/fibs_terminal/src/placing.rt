@@ -73,8 +73,8 @@ fn number_in(word: &[u8], least: u64) -> Option<usize> {
 }
 
 impl<'a> Screen<'a> {
-    /// Has the newest board stand above, if it is to and can; else all rows scroll. True unless there is no room for
-    /// it.
+    /// Has the newest board stand above, if it is to and can; else all rows scroll. Whether it stands there or, if none
+    /// is known, the next one is to.
     fn stand_again(&mut self) -> Result<bool, AllocError>
         ensures stands { IfOk result (StandsAgain self.old.page.settings self.old.memory.here.watching.heard
             self.old.memory.here.table.boards.heard self.old.memory.program.above self.new.memory.program.above
@@ -91,14 +91,14 @@ impl<'a> Screen<'a> {
         if here.table.boards.phase().is_some() {
             return here.table.boards.stand(above, page);
         }
-        let stands = is_wanted(&page.settings);
+        let stands = is_wanted(&page.settings) && above.leaves_room(&page.settings);
         if !stands {
             page.say(above.give_back())?;
         }
         Ok(stands)
     }
 
-    /// The same after the size of the terminal has changed, if a board stood above: then nothing is said.
+    /// The same after the size of the terminal has changed, if a board stood above or is to: then nothing is said.
     fn stand_after_change(&mut self) -> Result<(), AllocError>
         ensures { self.new.memory.here ≡ self.old.memory.here }
     {

@@ -7,11 +7,11 @@
 //! rows are made free as it takes, so that nothing is lost that was said: line ends make them free below, `ESC [ N L`
 //! moves all rows down by them. A row that is said follows, else `ESC [ A` and a line end: rlwrap takes what comes
 //! after the last line end for a prompt. `ESC [ r` makes all rows scroll again.
-ghost use Rattle.std.specs.Prelude.{◌≡◌, ◌≢◌, ◌≤◌, ◌↔◌, ◌++◌, ◌+◌, ◌&&◌, count_by, OnOk, IfOk, IfSome, IsTrue, true, false};
+ghost use Rattle.std.specs.Prelude.{◌≡◌, ◌≢◌, ◌≤◌, ◌↔◌, ◌++◌, ◌+◌, ◌&&◌, count_by, OnOk, IfNone, IfOk, IfSome, IsTrue, true, false};
 ghost use Rattle.fibs_lines.specs.Lines.{is_line_end};
 ghost use Rattle.fibs_position.specs.GameOf.{game_of};
 ghost use Rattle.fibs_position.specs.WatchedOf.{watched_of};
-ghost use Rattle.fibs_terminal.specs.Above.{StandsNot, StandsOrNot, control, frees_below, frees_upper, given_back, moves_down, placed, wants_above};
+ghost use Rattle.fibs_terminal.specs.Above.{StandsNot, StandsOrNot, control, frees_below, frees_upper, given_back, has_no_room, leaves_room, moves_down, placed, wants_above};
 ghost use Rattle.fibs_terminal.specs.Drawings.{is_plain};
 
 use crate::drawing::picture::append_marked;
@@ -154,6 +154,13 @@ impl Above {
         self.held != 0
     }
 
+    /// Whether the rows that are kept there leave room below.
+    pub(crate) fn leaves_room(&self, settings: &Settings<'_>) -> bool
+        ensures { result ≡ leaves_room self.now settings.now }
+    {
+        self.held <= settings.rows.saturating_sub(LEAST_BELOW)
+    }
+
     /// What makes all rows scroll again; nothing if they do.
     #[tactic(auto, unfolding(crate::specs::Above::all_scroll))]
     pub fn give_back(&mut self) -> &'static [u8]
@@ -176,8 +183,9 @@ impl Above {
 
     /// How many rows are to be kept for a picture. None if the terminal has no room for them.
     fn rows_for(&self, picture: &[u8], settings: &Settings<'_>) -> Option<usize>
-        ensures { IfSome result (λ rows. (count_by is_line_end picture.now ≤ rows) × (rows ≤ 99)
+        ensures some { IfSome result (λ rows. (count_by is_line_end picture.now ≤ rows) × (rows ≤ 99)
             × (rows + 9 ≤ settings.now.rows)) }
+        ensures none { IfNone result (has_no_room (count_by is_line_end picture.now) self.now settings.now ≡ true) }
     {
         let rows = rows_of(picture).max(self.held);
         if rows > MOST_ABOVE || rows + LEAST_BELOW > settings.rows {

@@ -369,3 +369,28 @@ fn a_watched_board_takes_another_size_at_once() {
     low.take(&watched(40, b"rows 29"));
     assert_eq!(low.scrolls, (0, 28));
 }
+
+/// Once no game is watched its board stays there as long as the terminal has room, and then scrolls.
+#[test]
+fn what_was_watched_stands_as_long_as_there_is_room() {
+    let board = String::from_utf8(TO_ROLL.to_vec()).unwrap().replace("You:bob", "ann:bob");
+    let start = [
+        Cue::Opens,
+        Cue::Hears(WELCOME),
+        Cue::Hears(SETTINGS),
+        Cue::Types(b"board above"),
+        Cue::Hears(b"You're now watching ann.\r\n"),
+        Cue::Hears(board.as_bytes()),
+        Cue::Hears(b"You stop watching ann.\r\n"),
+    ];
+    let last = |typed: &[Cue<'_>]| {
+        let all = shown(high(40), &[], &[&start[..], typed].concat());
+        all.lines().last().map(str::to_string).expect("a row")
+    };
+    let above = Cue::Types(b"board above");
+    assert_eq!(last(&[above]), "The newest board stands above now: board below lets it scroll.");
+    let stands = last(&[Cue::Types(b"rows 24"), above]);
+    assert_eq!(stands, "The newest board stands above now: board below lets it scroll.");
+    let low = last(&[Cue::Types(b"rows 12"), above]);
+    assert_eq!(low, "Boards stand above from now on, if they have room: board below ends that.");
+}
