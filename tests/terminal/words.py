@@ -47,7 +47,7 @@ ROWS = [(kind, re.compile(form), more) for kind, form, *more in [
     ('gone', r'\S+ is here: your match \(.*\) is saved: (invite \S+)\.'),
     ('gone', r'(invite \S+)\.'),
     ('again', r'(invite \S+ \d+) plays another match; (players ready) lists others\.'),
-    ('auto', r'You logged in with automove or greedy on: (fix)(?: turns it off, and)? logs in again\.'),
+    ('auto', r'You logged in with automove or greedy on: (fix) logs in again(?: with both off)?\.'),
     ('auto', r'The server plays for you: (fix) turns it off; the same line again goes out\.'),
     ('open', r'(?:lost|closed).*: (open) connects again, (quit) ends'),
     ('open', r'no connection to .*', 'open', 'quit'),

@@ -18,7 +18,7 @@ pub enum Row {
     Undoubled,
     /// That the user may roll, and that his double was accepted.
     Accepted,
-    /// That the server plays by itself, and how one plays oneself.
+    /// That the server played by itself at the login, and how one plays oneself.
     ServerPlays,
     /// That the opponent offers to resign, and how that is answered.
     Resigns,
@@ -139,7 +139,7 @@ impl Row {
             Row::Undoubled => b"Your turn: roll; the server refused a double in this game.\n",
             Row::Accepted => b"Your turn: roll; your double is accepted.\n",
             Row::ServerPlays =>
-                b"You logged in with automove or greedy on: fix turns it off, and logs in again.\n",
+                b"You logged in with automove or greedy on: fix logs in again with both off.\n",
             Row::Resigns | Row::Concedes => b" offers to resign: accept, or reject.\n",
             Row::Owes => b" waits for your answer: accept, or reject.\n",
             Row::Unsettled => b" may wait for your answer: accept, or reject.\n",

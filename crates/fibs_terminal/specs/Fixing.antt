@@ -93,9 +93,10 @@ abbrev pub after_asked : Option Refusal → Toggles → Fixing → Fixing
 after_asked why toggles f =
     record f { step = cond (plays_itself why || any_on toggles) S.Toggles f.step }
 
--- what is said then: that he has to log in again, that he has not, or that there is nothing to do
+-- what is said then, by whether he has to log in again, and by whether the server plays now
 abbrev pub fix_words : Bool → Bool → List ℕ
-fix_words true on = codes "fix: turns it off, leaves and logs in again.\n"
+fix_words true true = codes "fix: turns it off, leaves and logs in again.\n"
+fix_words true false = codes "fix: leaves and logs in again.\n"
 fix_words false true = codes "fix: turns it off.\n"
 fix_words false false = codes "fix: the server plays nothing for you.\n"
 

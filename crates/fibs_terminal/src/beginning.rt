@@ -1,5 +1,5 @@
-//! Who begins a match in which the server would play for him is asked first: the first line that does on a connection
-//! is only answered, any other one goes on.
+//! Who begins a match in which the server would play for him, or the client take no decision since it did at the login,
+//! is asked first: the first line that does on a connection is only answered, any other one goes on.
 ghost use Rattle.std.specs.Prelude.{◌≡◌, ◌||◌, IfOk, OnOk};
 ghost use Rattle.fibs_commands.specs.PlainOf.{plain_value};
 ghost use Rattle.fibs_connect.specs.Wishes.{wish_value};
@@ -73,7 +73,7 @@ fn is_asked_now(plays: bool, before: bool, wish: Wish, begins: bool) -> bool
 }
 
 impl Connection {
-    /// Whether the server plays for the user.
+    /// Whether the server plays for the user, or did at the login.
     fn plays_for(&self) -> bool
         ensures { result ≡ plays_for self.now }
     {

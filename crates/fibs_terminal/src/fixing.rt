@@ -19,8 +19,11 @@ use std::cell::Cell;
 use std::io::Write;
 use std::time::Clock;
 
-/// What is said of the word, if the user has to log in again and if he has not, and if there is nothing to do.
+/// What is said of the word, if the server plays and the user has to log in again, if he has to do that alone, if he
+/// has not to, and if there is nothing to do.
 const FIXES: &[u8] = b"fix: turns it off, leaves and logs in again.\n";
+
+const LOGS_IN: &[u8] = b"fix: leaves and logs in again.\n";
 
 const TURNS_OFF: &[u8] = b"fix: turns it off.\n";
 
@@ -243,8 +246,8 @@ impl Fixing {
     }
 }
 
-/// Whether the client would take no decision before the next login, since the server plays for the user: why it would
-/// refuse to roll says so.
+/// Whether the client would take no decision before the next login, since at this one the server played for the user:
+/// why it would refuse to roll says so.
 pub(crate) fn plays_itself(why: Option<Refusal>) -> bool
     ensures { result ≡ plays_itself why }
 {
@@ -252,8 +255,8 @@ pub(crate) fn plays_itself(why: Option<Refusal>) -> bool
 }
 
 impl<'a> Screen<'a> {
-    /// Answers `fix`: lines are typed for the user, if the server plays for him, by whichever word he has had it do so;
-    /// else what is advised follows.
+    /// Answers `fix`: lines are typed for the user, if the server plays for him, by whichever word he has had it do so,
+    /// or did at the login; else what is advised follows.
     pub(crate) fn fix(&mut self, client: &Client) -> Result<(), AllocError>
         ensures looking { self.new.memory.here.looking ≡ self.old.memory.here.looking }
         ensures begins { any_on self.old.memory.here.toggles ≡ true → self.new.memory.program.fixing.step ≡ S.Toggles }
@@ -265,11 +268,12 @@ impl<'a> Screen<'a> {
             fix_words (plays_itself (answer_now t roll)) (any_on self.old.memory.here.toggles)) }
     {
         let why = client.refusal(&Decision::Roll);
+        let is_on = self.memory.here.toggles.any_on();
         if plays_itself(why) {
             self.memory.program.fixing.begin();
-            return self.page.say(FIXES);
+            return self.page.say(if is_on { FIXES } else { LOGS_IN });
         }
-        if self.memory.here.toggles.any_on() {
+        if is_on {
             self.memory.program.fixing.begin();
             return self.page.say(TURNS_OFF);
         }

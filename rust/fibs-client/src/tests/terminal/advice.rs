@@ -613,7 +613,7 @@ static LOGINS: [Scene; 6] = [
     ),
     (
         &[Cue::Loses, Cue::Opens, Cue::Hears(WELCOME), Cue::Hears(AUTOMOVE), Cue::Hears(TO_ROLL), Cue::Rests],
-        "You logged in with automove or greedy on: fix turns it off, and logs in again.\n",
+        "You logged in with automove or greedy on: fix logs in again with both off.\n",
     ),
     (
         &[
@@ -625,8 +625,8 @@ static LOGINS: [Scene; 6] = [
             Cue::Types(b"roll"),
             Cue::Rests,
         ],
-        "greedy was on at login. [4 ServerPlays]\n\
-You logged in with automove or greedy on: fix turns it off, and logs in again.\n",
+        "automove or greedy was on. [4 ServerPlays]\n\
+You logged in with automove or greedy on: fix logs in again with both off.\n",
     ),
     (
         &[
@@ -639,7 +639,7 @@ You logged in with automove or greedy on: fix turns it off, and logs in again.\n
             Cue::Types(b"toggle automove"),
             Cue::Rests,
         ],
-        "[10 NotOn]\nYou logged in with automove or greedy on: fix turns it off, and logs in again.\n",
+        "[10 NotOn]\nYou logged in with automove or greedy on: fix logs in again with both off.\n",
     ),
 ];
 
@@ -668,7 +668,7 @@ static ASKED: [(&[u8], &str); 4] = [
 /// By the settings of this login: those of the one before say nothing of it.
 #[test]
 fn that_the_server_plays_is_said_if_it_does_and_only_then() {
-    const ROW: &str = "You logged in with automove or greedy on: fix turns it off, and logs in again.\n";
+    const ROW: &str = "You logged in with automove or greedy on: fix logs in again with both off.\n";
     let logs_in = |settings| [Cue::Loses, Cue::Opens, Cue::Hears(WELCOME), Cue::Hears(settings)];
     for (settings, plays) in PLAYING {
         for (board, hint) in ASKED {
