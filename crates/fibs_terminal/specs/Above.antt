@@ -75,6 +75,8 @@ pub record Stands (s : Settings) (watched wanted : Bool) (b : BoardFields) (old 
   pub picture : List ℕ
   pub drawn : Draws s watched wanted b picture
   pub fits : count_by is_line_end picture ≤ now.held
+  pub kept : now.held ≡ max (count_by is_line_end picture) old.held
+  pub most : now.held ≤ 99
   pub room : now.held + least_below ≤ s.rows
   pub text_is : after ≡ before ++ placed (old.held == 0) now.held picture
 

@@ -1,4 +1,5 @@
--- Who begins a match in which the server would play for him is asked first, once in a login (the project's own).
+-- Who begins a match in which the server would play for him, or the client take no decision since it did at the login,
+-- is asked first, once in a login (the project's own).
 use Rattle.std.specs.Prelude.{◌≡◌, ◌⊎◌, ◌&&◌, ◌||◌, ℕ, Bool, true, false, not, List, Option, Some, Result, IfOk}
 use Rattle.fibs_position.specs.declared.numbers.Numbers.{Numbers}
 use Rattle.fibs_commands.specs.PlainCommands.{PlainValue, invite, invite_to, join, join_with}

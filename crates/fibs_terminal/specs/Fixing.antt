@@ -82,13 +82,14 @@ abbrev pub is_asked : Step → Bool
 is_asked S.Asked = true
 is_asked step = false
 
--- the client takes no decision before the next login, since the server plays for the user: so it refuses to roll
+-- the client takes no decision before the next login, since at this one the server played for the user: so it refuses
+-- to roll
 abbrev pub plays_itself : Option Refusal → Bool
 plays_itself (Some ServerPlays) = true
 plays_itself why = false
 
--- what the user asks for by `fix`: it begins if the server plays for him, by whichever word he has had it do so; else
--- it goes on as it was
+-- what the user asks for by `fix`: it begins if the server plays for him, by whichever word he has had it do so, or did
+-- at the login; else it goes on as it was
 abbrev pub after_asked : Option Refusal → Toggles → Fixing → Fixing
 after_asked why toggles f =
     record f { step = cond (plays_itself why || any_on toggles) S.Toggles f.step }

@@ -5,7 +5,7 @@
 ghost use Rattle.std.specs.Prelude.{◌≡◌, ◌≢◌, ◌≤◌, ◌+◌, None, IfNone, IfOk, IfSome, OnErr, false, length, take, true};
 ghost use Rattle.std.specs.Duration.{as_nanos};
 ghost use Rattle.std.specs.Io.{ReadsAtMost};
-ghost use Rattle.std.specs.Io.KnownBytes.{ReadConsumes};
+ghost use Rattle.std.specs.Io.KnownBytes.{Keeps, ReadConsumes};
 ghost use Rattle.fibs_terminal.specs.Dues.{IsFrom, dialed, due_bytes, due_fix, end_bytes, first_due, fits, is_any, without};
 
 use crate::fixing::FixLine;
@@ -338,6 +338,7 @@ impl<'a, 'b, R: Read> OrderedInput<'a, 'b, R> {
             self.old.is_between_lines self.new.is_between_lines (R.remaining self.old.typed.now)
             (R.remaining self.new.typed.now) (length buf.old) (take portion.count buf.new)) }
         ensures failed { OnErr result (self.new.is_between_lines ≡ self.old.is_between_lines) }
+        ensures keeps { OnErr result (Keeps (R.remaining self.old.typed.now) (R.remaining self.new.typed.now)) }
         ensures quits { self.new.quits_at_end ≡ self.old.quits_at_end }
     {
         if self.is_between_lines {
@@ -375,6 +376,7 @@ impl<R: Read> Read for OrderedInput<'_, '_, R> {
             × IsFrom pending self.old.quits_at_end origin self.old.is_between_lines self.new.is_between_lines
             (R.remaining self.old.typed.now) (R.remaining self.new.typed.now) (length buf.old) (take count buf.new)) }
         ensures failed { OnErr result (self.new.is_between_lines ≡ self.old.is_between_lines) }
+        ensures keeps { OnErr result (Keeps (R.remaining self.old.typed.now) (R.remaining self.new.typed.now)) }
         ensures quits { self.new.quits_at_end ≡ self.old.quits_at_end }
     {
         let pending = self.dues.pending();

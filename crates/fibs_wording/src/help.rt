@@ -169,7 +169,7 @@ If it is declined, roll or move: the screen says which.\n",
         b"toggle",
         b"toggle ready: says whether you are ready to play.\n\
 toggle automove, toggle greedy: turns off what the server plays by itself.\n\
-It counts from the next login on: fix turns it off, and logs in again.\n",
+It counts from the next login on: fix does both, as far as it is needed.\n",
     ),
     (
         b"fix",

@@ -18,7 +18,7 @@ pub fn refusal_words(why: Refusal) -> &'static [u8]
         Refusal::AlreadyOpen => b"You are connected already.",
         Refusal::Offline => b"There is no connection: type open.",
         Refusal::NotReady => b"The server has not greeted you yet.",
-        Refusal::ServerPlays => b"You decide nothing on this login: automove or greedy was on.",
+        Refusal::ServerPlays => b"Not on this login: automove or greedy was on when it began.",
         Refusal::NoBoard => b"You are in no match: invite NAME 5 begins one.",
         Refusal::Waiting => b"You have decided, and no new board has come yet.",
         Refusal::NotYours => b"There is nothing for you to decide on this board.",

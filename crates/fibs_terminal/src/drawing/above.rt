@@ -7,7 +7,7 @@
 //! rows are made free as it takes, so that nothing is lost that was said: line ends make them free below, `ESC [ N L`
 //! moves all rows down by them. A row that is said follows, else `ESC [ A` and a line end: rlwrap takes what comes
 //! after the last line end for a prompt. `ESC [ r` makes all rows scroll again.
-ghost use Rattle.std.specs.Prelude.{◌≡◌, ◌≢◌, ◌≤◌, ◌↔◌, ◌++◌, ◌+◌, ◌&&◌, count_by, OnOk, IfNone, IfOk, IfSome, IsTrue, true, false};
+ghost use Rattle.std.specs.Prelude.{◌≡◌, ◌≢◌, ◌≤◌, ◌↔◌, ◌++◌, ◌+◌, ◌&&◌, count_by, max, OnOk, IfNone, IfOk, IfSome, IsTrue, true, false};
 ghost use Rattle.fibs_lines.specs.Lines.{is_line_end};
 ghost use Rattle.fibs_position.specs.GameOf.{game_of};
 ghost use Rattle.fibs_position.specs.WatchedOf.{watched_of};
@@ -184,7 +184,7 @@ impl Above {
     /// How many rows are to be kept for a picture. None if the terminal has no room for them.
     fn rows_for(&self, picture: &[u8], settings: &Settings<'_>) -> Option<usize>
         ensures some { IfSome result (λ rows. (count_by is_line_end picture.now ≤ rows) × (rows ≤ 99)
-            × (rows + 9 ≤ settings.now.rows)) }
+            × (rows + 9 ≤ settings.now.rows) × (rows ≡ max (count_by is_line_end picture.now) self.now.held)) }
         ensures none { IfNone result (has_no_room (count_by is_line_end picture.now) self.now settings.now ≡ true) }
     {
         let rows = rows_of(picture).max(self.held);
