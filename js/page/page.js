@@ -318,7 +318,7 @@ function* asked() {
   }
   if (!isIn()) return;
   if (servers.length && !isMending) {
-    const text = `The server plays for you (${servers.join(' and ')}): you could decide nothing.`;
+    const text = `You logged in with ${servers.join(' and ')} on: you could decide nothing.`;
     yield { ...ask(text, yes('Turn it off and log in again', mend)), kind: 'bad' };
   }
   if (match.resumes) {

@@ -35,7 +35,7 @@ says! {
         AlreadyOpen: "a connection is open already",
         Offline: "no connection is open",
         NotReady: "the server has not answered the login by messages 1 and 2",
-        ServerPlays: "the server moves or bears off by itself (automove or greedy was on at the login)",
+        ServerPlays: "automove or greedy was on at the login: the server may move or bear off by itself",
         NoBoard: "no board on which the user plays was shown on this connection",
         Waiting: "a decision was sent, and no board that differs was shown since",
         NotYours: "the player does not decide on the board that is shown",

@@ -244,7 +244,7 @@ const alone = async () => {
   check('a wrong password asks again', await page.ask('document.activeElement.id === "password"'));
   await tryLogin('zoe', 'secret');
   await page.until(has('.notice.bad'));
-  check('automove is said, with what to do', (await text(page, '.notice')).includes('plays for you (automove)'));
+  check('automove is said, with what to do', (await text(page, '.notice')).includes('logged in with automove on'));
   await page.click('.notice.bad button');
   await heard(game, 'zoe < bye');
   await page.until(`document.querySelector('#state').textContent.includes('logged in')

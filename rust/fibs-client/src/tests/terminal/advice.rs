@@ -625,7 +625,7 @@ static LOGINS: [Scene; 6] = [
             Cue::Types(b"roll"),
             Cue::Rests,
         ],
-        "automove or greedy was on. [4 ServerPlays]\n\
+        "automove or greedy was on when it began. [4 ServerPlays]\n\
 You logged in with automove or greedy on: fix logs in again with both off.\n",
     ),
     (
