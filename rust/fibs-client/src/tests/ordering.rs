@@ -199,8 +199,10 @@ fn read_past_end(typed: &[u8], reads: usize) -> String {
 /// stays.
 #[test]
 fn lines_that_are_due_at_once_go_one_by_one() {
-    let rows: [(bool, &[&[u8]]); 2] =
-        [(false, &[b"open\n", b"order roll\n", b"board\n", b"bye\n", b"roll\n"]), (true, &[b"quit\n", b"quit\n", b"quit\n"])];
+    let rows: [(bool, &[&[u8]]); 2] = [
+        (false, &[b"open\n", b"order roll\n", b"board\n", b"bye\n", b"roll\n"]),
+        (true, &[b"quit\n", b"quit\n", b"quit\n"]),
+    ];
     for (ends, wanted) in rows {
         let dues = Dues::new();
         for due in [&dues.open, &dues.order, &dues.board] {
