@@ -22,6 +22,10 @@ ASKS, STUCK = 3.0, 7.0
 # Which board may be drawn again: one of so many before the board that was drawn last.
 AGAIN = 5
 
+# After so many rows that the server does not follow, since it waits for the answer to an offer of which it said
+# nothing, a player is helped on.
+FUTILE = 20
+
 # Said in the words of the server, by those who play.
 TALK = ['kibitz %s rejects. The game continues.', 'say %s accepts the double.', 'kibitz You give up. %s wins 1 point.',
         'shout %s drops connection. The game was saved.', 'say hello', 'whisper %s wants to resign.', 'players', 'help',
@@ -30,13 +34,15 @@ TALK = ['kibitz %s rejects. The game continues.', 'say %s accepts the double.', 
 # With bold letters, and without.
 TERMINALS = 'xterm', 'dumb'
 
-# What says that the opponent offers to resign.
-OF_OFFERS = re.compile(r'to resign|for your answer|accept or reject')
+# What says that the opponent offers something.
+OF_OFFERS = re.compile(r"to resign|for your answer|accept or reject|doubles\.|'accept' or 'reject'")
 
 # The first and the last row of a picture.
 EDGE = re.compile(r' \+[-\d]+\+---\+[-\d]+\+.*')
 # what somebody has said, at a time
 SAID = re.compile(r'\d\d:\d\d ')
+# what a player has typed, and what was sent of it
+TYPED = '> ', 'sent '
 # the server refuses a double; a game begins, or goes on after a pause, of which nothing of before is known
 FORBIDS = re.compile(r"\*\* (?:You can't double|The Crawford rule)")
 BEGINS = re.compile('connected to |Starting a new game with |You are now playing with |\\S+ has joined you')
@@ -118,6 +124,7 @@ class Seat:
         # a line that was typed, and is neither sent nor refused yet
         self.awaited, self.rescue = '', None
         self.has_asked = self.is_stuck = self.is_over = self.is_invited = False
+        self.futile = 0
         # the server has refused a double in this game
         self.has_refused_double = False
         self.counts, self.faults, self.stalls, self.alarms = Counter(), [], [], []
@@ -298,6 +305,11 @@ class Seat:
     def judge(self, kind, row, lines):
         verdict = self.verdict(kind, row, lines)
         self.counts['row %s: %s' % (kind, verdict)] += 1
+        match = self.game.room.now().match
+        if match is None or match.resigner is None:
+            self.futile = 0
+        elif verdict == 'untold':
+            self.futile += 1
         if verdict not in ('right', 'untold'):
             self.alarm(verdict, row)
 
@@ -351,6 +363,10 @@ class Seat:
         """Types what the last rows name, if they name something. He waits to see what he has typed before."""
         if self.awaited and now - self.last_typed < AWAITS:
             return False
+        if self.futile > FUTILE:
+            self.futile = 0
+            self.stuck(self.game.room.now())
+            return True
         if self.inviting and not (self.row and self.row[0] == 'open'):
             line, self.inviting, self.row = self.inviting, None, None
             self.type(line, 'invited')
@@ -413,13 +429,16 @@ class Seat:
             self.stuck(moment)
 
     def was_told(self, moment):
-        """False if all that the server waits for is the answer to an offer to resign of which no row of this connection
-        speaks: it was made while the player was away, or its text was cut off, and this server says it once."""
-        if moment.match is None or moment.match.resigner is None:
+        """False if all that the server waits for is the answer to an offer to resign, or to a double that its boards
+        hide, of which no row of this connection speaks: it was made while the player was away, or its text was cut off,
+        and this server says it once."""
+        match = moment.match
+        is_hidden = match is not None and match.doubler is not None and self.game.habits.hides_doubles
+        if match is None or match.resigner is None and not is_hidden:
             return True
         rows = list(self.rows)
         since = max((at for at, row in enumerate(rows) if row.startswith('connected to ')), default=0)
-        return any(OF_OFFERS.search(row) for row in rows[since:])
+        return any(OF_OFFERS.search(row) for row in rows[since:] if not (SAID.match(row) or row.startswith(TYPED)))
 
     def stuck(self, moment):
         """The match stands still. It is helped on by what the server would take."""

@@ -17,6 +17,7 @@ import random
 import sys
 import time
 from collections import Counter
+from types import SimpleNamespace
 
 from people import Failed, same
 from seats import Seat
@@ -298,6 +299,27 @@ def what_is_sent_after_a_connection_that_ended_at_once():
     same('what was sent otherwise', game.sent_otherwise(seat), [])
 
 
+def an_offer_is_told_by_the_server_alone():
+    """What a player has typed or said of one is nothing that the server has told, nor what it said on a connection
+    before; and of a double a board tells, if the server's boards do."""
+    game = Game(0, SEED)
+    name, other = game.names
+    seat = Unseated(game, name, other, 0)
+    said = ['> whisper bob wants to resign.', 'sent whisper bob wants to resign.',
+            '05:05 You whisper: bob wants to resign.']
+    connected, offer = 'connected to 127.0.0.1:4321', 'bob wants to resign. You will win 1 point.'
+    double = "bob doubles. Type 'accept' or 'reject'."
+    resigns, doubles = SimpleNamespace(resigner=1, doubler=None), SimpleNamespace(resigner=None, doubler=1)
+    for match, hides, rows, told in (
+            (resigns, False, [], False), (resigns, False, said, False), (resigns, False, [offer], True),
+            (resigns, False, [offer, connected], False), (doubles, False, [], True), (doubles, True, said, False),
+            (doubles, True, [double], True)):
+        game.habits.hides_doubles = hides
+        seat.rows.clear()
+        seat.rows.extend([connected, *rows])
+        same('what is told by %r' % rows, seat.was_told(SimpleNamespace(match=match)), told)
+
+
 def a_hint_is_done_once_its_move_is_sent():
     """Also if it comes again before that, and if the move has other numbers for the server."""
     game = Game(0, SEED)
@@ -314,7 +336,7 @@ def a_hint_is_done_once_its_move_is_sent():
 
 
 SCENES = [thirty_matches_by_the_screen_alone, what_is_sent_after_a_connection_that_ended_at_once,
-          a_hint_is_done_once_its_move_is_sent]
+          a_hint_is_done_once_its_move_is_sent, an_offer_is_told_by_the_server_alone]
 
 
 def main():
