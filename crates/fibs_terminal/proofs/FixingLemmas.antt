@@ -6,13 +6,13 @@ use Rattle.fibs_terminal.specs.Fixing.{AreFew, FixTurnsOff, TurnsAllOff, TurnsOf
 use Rattle.fibs_terminal.specs.Toggles.{after_line as toggled_by, after_sent, flipped, is_on}
 use Rattle.fibs_terminal.specs.declared.fixing.FixLine.{FixLine}
 use Rattle.fibs_terminal.specs.declared.fixing.FixLine.TheVariants as L
-use Rattle.fibs_terminal.specs.declared.fixing.Step.{Step}
-use Rattle.fibs_terminal.specs.declared.fixing.Step.TheVariants as S
+use Rattle.fibs_terminal.specs.declared.fixing.FixStep.{FixStep}
+use Rattle.fibs_terminal.specs.declared.fixing.FixStep.TheVariants as S
 use Rattle.fibs_terminal.specs.declared.toggles.Toggle.{Toggle}
 use Rattle.fibs_terminal.specs.declared.toggles.Toggles.{Toggles}
 
 -- no line but `bye` leaves the question open
-pub asked_by_bye : (step : Step) (bye asks : Bool) → bye ≡ false → is_asked (after_typed step bye asks) ≡ false
+pub asked_by_bye : (step : FixStep) (bye asks : Bool) → bye ≡ false → is_asked (after_typed step bye asks) ≡ false
 asked_by_bye S.Nothing false asks e = refl
 asked_by_bye S.Toggles false asks e = refl
 asked_by_bye S.Leaves false asks e = refl
@@ -21,7 +21,7 @@ asked_by_bye S.Opens false asks e = refl
 asked_by_bye step true asks e = absurd cc
 
 -- nor does one that is not only answered
-pub asked_if_asked : (step : Step) (bye asks : Bool) → asks ≡ false → is_asked (after_typed step bye asks) ≡ false
+pub asked_if_asked : (step : FixStep) (bye asks : Bool) → asks ≡ false → is_asked (after_typed step bye asks) ≡ false
 asked_if_asked S.Nothing bye false e = refl
 asked_if_asked S.Toggles bye false e = refl
 asked_if_asked S.Leaves true false e = refl

@@ -9,10 +9,10 @@ use Rattle.fibs_terminal.specs.Toggles.{after_line as toggled_by, any_on, is_on}
 use Rattle.fibs_terminal.specs.declared.fixing.Fixing.{Fixing}
 use Rattle.fibs_terminal.specs.declared.fixing.FixLine.{FixLine}
 use Rattle.fibs_terminal.specs.declared.fixing.FixLine.TheVariants as L
-use Rattle.fibs_terminal.specs.declared.fixing.Step.{Step}
-use Rattle.fibs_terminal.specs.declared.fixing.Step.TheVariants as S
-use Rattle.fibs_terminal.specs.declared.fixing.Turn.{Turn}
-use Rattle.fibs_terminal.specs.declared.fixing.Turn.TheVariants as T
+use Rattle.fibs_terminal.specs.declared.fixing.FixStep.{FixStep}
+use Rattle.fibs_terminal.specs.declared.fixing.FixStep.TheVariants as S
+use Rattle.fibs_terminal.specs.declared.fixing.TurnOff.{TurnOff}
+use Rattle.fibs_terminal.specs.declared.fixing.TurnOff.TheVariants as T
 use Rattle.fibs_terminal.specs.declared.toggles.Toggles.{Toggles}
 
 -- all that is typed, each line with its end: none of them decides
@@ -26,13 +26,13 @@ line_bytes L.Open = codes "open\n"
 
 -- how a setting is turned off that may be on, and whose `toggle` the client takes or not: it knows only what the server
 -- has said at the login
-abbrev pub turn_of : Bool → Bool → Turn
+abbrev pub turn_of : Bool → Bool → TurnOff
 turn_of false taken = T.IsOff
 turn_of true true = T.Typed
 turn_of true false = T.AsItIs
 
 -- what is turned off first, if anything is on
-abbrev pub first_off : Turn → Turn → Option FixLine
+abbrev pub first_off : TurnOff → TurnOff → Option FixLine
 first_off T.Typed greedy = Some L.Automove
 first_off T.AsItIs greedy = Some L.SendAutomove
 first_off T.IsOff T.Typed = Some L.Greedy
@@ -47,38 +47,38 @@ toggles_line None plays = cond plays (Some L.Bye) None
 
 -- the line that is typed when the user may type: none if he has not asked for it, and none between `bye` and the end of
 -- the connection
-abbrev pub next_line : Step → Turn → Turn → Bool → Option FixLine
+abbrev pub next_line : FixStep → TurnOff → TurnOff → Bool → Option FixLine
 next_line S.Toggles automove greedy plays = toggles_line (first_off automove greedy) plays
 next_line S.Opens automove greedy plays = Some L.Open
 next_line step automove greedy plays = None
 
 -- where it is after that line, if the client may take no decision before the next login
-abbrev pub after_toggles : Option FixLine → Bool → Step
+abbrev pub after_toggles : Option FixLine → Bool → FixStep
 after_toggles (Some line) plays = S.Toggles
 after_toggles None plays = cond plays S.Leaves S.Nothing
 
 -- where it is after each: `bye` and `open` are typed once
-abbrev pub after_line : Step → Turn → Turn → Bool → Step
+abbrev pub after_line : FixStep → TurnOff → TurnOff → Bool → FixStep
 after_line S.Toggles automove greedy plays = after_toggles (first_off automove greedy) plays
 after_line S.Opens automove greedy plays = S.Nothing
 after_line step automove greedy plays = step
 
 -- the connection has ended: it is opened again only after that `bye`, and not if it is opened again otherwise
-abbrev pub after_end : Step → Bool → Step
+abbrev pub after_end : FixStep → Bool → FixStep
 after_end S.Leaves false = S.Opens
 after_end S.Asked false = S.Opens
 after_end step otherwise = S.Nothing
 
 -- where it is after a line of the user, by whether that asks for `bye`, and whether it was only answered by the
 -- question if he leaves his match: after that question each other line ends it
-abbrev pub after_typed : Step → Bool → Bool → Step
+abbrev pub after_typed : FixStep → Bool → Bool → FixStep
 after_typed S.Leaves true true = S.Asked
 after_typed S.Asked true false = S.Leaves
 after_typed S.Asked false asks = S.Nothing
 after_typed step bye asks = step
 
 -- the `bye` that it typed was only answered, and the user has typed nothing since
-abbrev pub is_asked : Step → Bool
+abbrev pub is_asked : FixStep → Bool
 is_asked S.Asked = true
 is_asked step = false
 
@@ -103,11 +103,11 @@ fix_words false false = codes "fix: the server plays nothing for you.\n"
 
 -- how automove is turned off now: by whether it is on after all that was said and sent, and by whether the client takes
 -- its `toggle`
-abbrev pub automove_turn : Talk → Toggles → Turn
+abbrev pub automove_turn : Talk → Toggles → TurnOff
 automove_turn t toggles = turn_of (is_on toggles.automove) (is_none (plain_refusal t automove_off))
 
 -- how greedy is
-abbrev pub greedy_turn : Talk → Toggles → Turn
+abbrev pub greedy_turn : Talk → Toggles → TurnOff
 greedy_turn t toggles = turn_of (is_on toggles.greedy) (is_none (plain_refusal t greedy_off))
 
 -- before the user types the next line is chosen, which is typed for him

@@ -7,7 +7,7 @@ ghost use Rattle.fibs_session.specs.History.Machine.{Talk, answer_now};
 ghost use Rattle.fibs_advice.specs.Passing.{is_greeted};
 ghost use Rattle.fibs_terminal.specs.Fixing.{after_asked, after_end, after_line, after_toggles, after_typed, first_off, fix_words, is_asked, line_bytes, next_line, plays_itself, toggles_line, turn_of};
 ghost use Rattle.fibs_terminal.specs.Toggles.{any_on};
-ghost use Rattle.fibs_terminal.specs.declared.fixing.Step.TheVariants as S;
+ghost use Rattle.fibs_terminal.specs.declared.fixing.FixStep.TheVariants as S;
 
 use crate::screen::Screen;
 use crate::terminal::Terminal;
@@ -64,7 +64,7 @@ impl FixLine {
 
 /// How far it is.
 #[derive(Clone, Copy, Debug, PartialEq, Eq)]
-pub enum Step {
+pub enum FixStep {
     /// It was not asked for, or is done.
     Nothing,
     /// What the server plays is turned off.
@@ -79,7 +79,7 @@ pub enum Step {
 
 /// How a setting is turned off.
 #[derive(Clone, Copy, Debug, PartialEq, Eq)]
-pub enum Turn {
+pub enum TurnOff {
     /// It is off.
     IsOff,
     /// By `toggle`, which the client takes.
@@ -88,29 +88,29 @@ pub enum Turn {
     AsItIs,
 }
 
-impl Turn {
+impl TurnOff {
     /// Of a setting that may be on, and whose `toggle` the client takes or not.
-    pub fn of(is_on: bool, is_taken: bool) -> Turn
+    pub fn of(is_on: bool, is_taken: bool) -> TurnOff
         ensures { result ≡ turn_of is_on is_taken }
     {
         match (is_on, is_taken) {
-            (false, _) => Turn::IsOff,
-            (true, true) => Turn::Typed,
-            (true, false) => Turn::AsItIs,
+            (false, _) => TurnOff::IsOff,
+            (true, true) => TurnOff::Typed,
+            (true, false) => TurnOff::AsItIs,
         }
     }
 }
 
 /// What is turned off first, if anything is on.
-fn first_off(automove: Turn, greedy: Turn) -> Option<FixLine>
+fn first_off(automove: TurnOff, greedy: TurnOff) -> Option<FixLine>
     ensures { result ≡ first_off automove greedy }
 {
     match (automove, greedy) {
-        (Turn::Typed, _) => Some(FixLine::Automove),
-        (Turn::AsItIs, _) => Some(FixLine::SendAutomove),
-        (Turn::IsOff, Turn::Typed) => Some(FixLine::Greedy),
-        (Turn::IsOff, Turn::AsItIs) => Some(FixLine::SendGreedy),
-        (Turn::IsOff, Turn::IsOff) => None,
+        (TurnOff::Typed, _) => Some(FixLine::Automove),
+        (TurnOff::AsItIs, _) => Some(FixLine::SendAutomove),
+        (TurnOff::IsOff, TurnOff::Typed) => Some(FixLine::Greedy),
+        (TurnOff::IsOff, TurnOff::AsItIs) => Some(FixLine::SendGreedy),
+        (TurnOff::IsOff, TurnOff::IsOff) => None,
     }
 }
 
@@ -125,57 +125,63 @@ fn toggles_line(first: Option<FixLine>, plays: bool) -> Option<FixLine>
 }
 
 /// Where it is after that line.
-fn after_toggles(first: Option<FixLine>, plays: bool) -> Step
+fn after_toggles(first: Option<FixLine>, plays: bool) -> FixStep
     ensures { result ≡ after_toggles first plays }
 {
     match first {
-        Some(_) => Step::Toggles,
-        None => { if plays { Step::Leaves } else { Step::Nothing } }
+        Some(_) => FixStep::Toggles,
+        None => {
+            if plays {
+                FixStep::Leaves
+            } else {
+                FixStep::Nothing
+            }
+        }
     }
 }
 
-impl Step {
+impl FixStep {
     /// The line that is typed now, by how both settings are turned off, and whether the client takes no decision before
     /// the next login.
-    fn next_line(self, automove: Turn, greedy: Turn, plays: bool) -> Option<FixLine>
+    fn next_line(self, automove: TurnOff, greedy: TurnOff, plays: bool) -> Option<FixLine>
         ensures { result ≡ next_line self automove greedy plays }
     {
         match self {
-            Step::Toggles => toggles_line(first_off(automove, greedy), plays),
-            Step::Opens => Some(FixLine::Open),
-            Step::Nothing | Step::Leaves | Step::Asked => None,
+            FixStep::Toggles => toggles_line(first_off(automove, greedy), plays),
+            FixStep::Opens => Some(FixLine::Open),
+            FixStep::Nothing | FixStep::Leaves | FixStep::Asked => None,
         }
     }
 
     /// Where it is after that line.
-    fn after_line(self, automove: Turn, greedy: Turn, plays: bool) -> Step
+    fn after_line(self, automove: TurnOff, greedy: TurnOff, plays: bool) -> FixStep
         ensures { result ≡ after_line self automove greedy plays }
     {
         match self {
-            Step::Toggles => after_toggles(first_off(automove, greedy), plays),
-            Step::Opens => Step::Nothing,
-            Step::Nothing | Step::Leaves | Step::Asked => self,
+            FixStep::Toggles => after_toggles(first_off(automove, greedy), plays),
+            FixStep::Opens => FixStep::Nothing,
+            FixStep::Nothing | FixStep::Leaves | FixStep::Asked => self,
         }
     }
 
     /// Where it is after the end of a connection, which may be opened again otherwise.
-    fn after_end(self, otherwise: bool) -> Step
+    fn after_end(self, otherwise: bool) -> FixStep
         ensures { result ≡ after_end self otherwise }
     {
         match (self, otherwise) {
-            (Step::Leaves | Step::Asked, false) => Step::Opens,
-            _ => Step::Nothing,
+            (FixStep::Leaves | FixStep::Asked, false) => FixStep::Opens,
+            _ => FixStep::Nothing,
         }
     }
 
     /// Where it is after a line of the user, by whether that asks for `bye`, and whether he was only asked about it.
-    fn after_typed(self, is_bye: bool, asks: bool) -> Step
+    fn after_typed(self, is_bye: bool, asks: bool) -> FixStep
         ensures { result ≡ after_typed self is_bye asks }
     {
         match (self, is_bye, asks) {
-            (Step::Leaves, true, true) => Step::Asked,
-            (Step::Asked, true, false) => Step::Leaves,
-            (Step::Asked, false, _) => Step::Nothing,
+            (FixStep::Leaves, true, true) => FixStep::Asked,
+            (FixStep::Asked, true, false) => FixStep::Leaves,
+            (FixStep::Asked, false, _) => FixStep::Nothing,
             _ => self,
         }
     }
@@ -185,7 +191,7 @@ impl Step {
 #[derive(Clone, Copy, Debug, PartialEq, Eq)]
 pub struct Fixing {
     /// How far it is.
-    step: Step,
+    step: FixStep,
     /// The line that is to be typed.
     line: Option<FixLine>,
 }
@@ -197,7 +203,7 @@ impl Fixing {
         ensures line { result.line ≡ None }
     {
         Fixing {
-            step: Step::Nothing,
+            step: FixStep::Nothing,
             line: None,
         }
     }
@@ -206,7 +212,7 @@ impl Fixing {
     pub fn begin(&mut self)
         ensures { self.new ≡ record self.old { step = S.Toggles } }
     {
-        self.step = Step::Toggles;
+        self.step = FixStep::Toggles;
     }
 
     /// The connection has ended, and may be opened again otherwise. Whether this opens it again.
@@ -216,7 +222,7 @@ impl Fixing {
     {
         self.step = self.step.after_end(otherwise);
         self.line = None;
-        self.step == Step::Opens
+        self.step == FixStep::Opens
     }
 
     /// The user has typed a line; whether it asks for `bye`, and whether he was only asked if he leaves his match.
@@ -230,7 +236,7 @@ impl Fixing {
     }
 
     /// The user may type: which line is typed for him.
-    pub fn rest(&mut self, automove: Turn, greedy: Turn, plays: bool)
+    pub fn rest(&mut self, automove: TurnOff, greedy: TurnOff, plays: bool)
         ensures line { self.new.line ≡ next_line self.old.step automove greedy plays }
         ensures step { self.new.step ≡ after_line self.old.step automove greedy plays }
     {

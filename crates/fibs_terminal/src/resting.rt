@@ -9,7 +9,7 @@ ghost use Rattle.fibs_terminal.specs.Boxes.{IsQuiet};
 ghost use Rattle.fibs_terminal.specs.Fixing.{before_typing};
 ghost use Rattle.fibs_terminal.specs.Resting.{IsAbsent, IsJoinRow, IsSettled, Rests, SaysRow, has_told};
 
-use crate::fixing::{Turn, plays_itself};
+use crate::fixing::{TurnOff, plays_itself};
 use crate::own_rows::say_rows;
 use crate::rematch::{note_said, say_rematch};
 use crate::screen::{Moment, Screen};
@@ -173,8 +173,8 @@ impl<'a> Screen<'a> {
         let aside = aside_of(&here.situation, directory, passed);
         let advice = advised(alloc, client, &here.situation, aside)?;
         here.advising.say(&advice, &here.situation, page)?;
-        let automove = Turn::of(here.toggles.automove.is_on(), advice.automove);
-        let greedy = Turn::of(here.toggles.greedy.is_on(), advice.greedy);
+        let automove = TurnOff::of(here.toggles.automove.is_on(), advice.automove);
+        let greedy = TurnOff::of(here.toggles.greedy.is_on(), advice.greedy);
         let plays = plays_itself(client.refusal(&Decision::Roll));
         self.memory.program.fixing.rest(automove, greedy, plays);
         Ok(())
