@@ -190,6 +190,16 @@ fn each_line_says_what_has_happened() {
             ],
             &["ann doubled", "eve accepted the double"],
         ),
+        // what a game is worth on a cube that no board has shown yet
+        (
+            &[
+                TO_ROLL,
+                "You double. Please wait for eve to accept or reject.",
+                "eve accepts the double. The cube shows 2.",
+                "You win the game and get 2 points. Congratulations!",
+            ],
+            &["ann doubled", "eve accepted the double", "ann won 2 single"],
+        ),
         (
             &[TO_ROLL, "You double. Please wait for eve to accept or reject.", "eve gives up. You win 1 point."],
             &["ann doubled", "eve rejected"],

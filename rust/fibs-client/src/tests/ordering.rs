@@ -143,6 +143,53 @@ fn open_is_typed_when_it_is_due() {
     }
 }
 
+/// Something is ready in the first wait; in the next one nothing is, until its time has passed.
+struct Ready<'a> {
+    clock: &'a Cell<u64>,
+    first: Option<First>,
+}
+
+impl Watch for Ready<'_> {
+    fn first(&mut self) -> First {
+        panic!("it waits without a time");
+    }
+}
+
+impl Patience for Ready<'_> {
+    fn first_within(&mut self, time: Duration) -> Option<First> {
+        let first = self.first.take();
+        if first.is_none() {
+            self.clock.set(self.clock.get() + time.as_millis() as u64);
+        }
+        first
+    }
+}
+
+/// What is ready before `open` is due ends the wait, and leaves `open` to its time.
+#[test]
+fn what_is_ready_comes_before_open() {
+    for ready in [First::Typed, First::Heard] {
+        let (dues, clock) = (Dues::new(), Cell::new(0));
+        dues.open_at.set(Some(Duration::from_millis(4000)));
+        let mut watch = Ready { clock: &clock, first: Some(ready) };
+        assert_eq!(OrderedWatch::new(&mut watch, Moved(&clock), &dues).first(), ready);
+        assert_eq!((clock.get(), dues.open.get(), dues.open_at.get().is_some()), (0, false, true));
+    }
+}
+
+/// A server that asks for the login once more has refused it: that is the end, and no `open`.
+#[test]
+fn a_refused_login_is_the_end() {
+    for (input, is_refused) in [(&b"login: \r\nlogin: "[..], true), (b"login: ", false)] {
+        let dues = Dues::new();
+        let mut door = Door { input, room: 64, connections: 1 };
+        let mut stream = OrderedServer::new(&mut door, false, &dues).dial().expect("there is a connection");
+        let mut room = [0; 64];
+        while stream.read(&mut room).is_ok_and(|count| count > 0) {}
+        assert_eq!((dues.end.get(), dues.open.get()), (is_refused, false));
+    }
+}
+
 /// What is due, alone, is as something typed: nothing is waited for.
 #[test]
 fn what_is_due_is_not_waited_for() {

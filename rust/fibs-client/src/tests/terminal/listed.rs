@@ -64,6 +64,8 @@ fn players_are_listed_by_words() {
     let one = [player("alba", "- - 1 0", "1500.00", 0, 0), "6\r\n".to_owned()];
     let found = answered(&one, "players playing");
     assert_wanted(found == "Nobody of 1 player.\n", &found, "one player");
+    let found = shown_then(plain_settings(), &[Cue::Loses], &[Cue::Types(b"players")]);
+    assert_wanted(found == "Nobody is listed: who asks for the list.\n", &found, "nobody is listed");
 }
 
 /// So many players, with ratings that are so far apart.
@@ -90,6 +92,8 @@ fn the_nearest_are_listed_first_and_no_more_than_sixteen() {
     assert!(names(&found).starts_with(&["Pl05", "Pl04", "Pl06", "Pl03", "Pl07"]), "{found}");
     assert!(found.ends_with(".. 2 more: players p all\n"), "{found}");
     assert!(!names(&found).contains(&"Pl17") && !names(&found).contains(&"Pl16"), "{found}");
+    let found = answered(&many(18), "players p all");
+    assert!(names(&found).len() == 18 && found.ends_with("18 players.\n"), "{found}");
     let found = answered(&many(17), "players P");
     assert!(found.ends_with(".. 1 more: players P all\n"), "{found}");
     let words = "players ".to_owned() + &"pl".repeat(25) + " p";

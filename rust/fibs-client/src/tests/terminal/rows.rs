@@ -4,10 +4,12 @@ use crate::fibs_picture::in_words::append_rows_of;
 use crate::fibs_wording::environment::broken::{break_at_spaces, front_of};
 
 /// Texts, the columns that they may take, and the rows that are made of them.
-static BROKEN: [(&str, usize, &str); 5] = [
+static BROKEN: [(&str, usize, &str); 6] = [
     ("one two three", 8, "one two\nthree"),
     ("aaaa bbbbb cc ddd", 8, "aaaa\nbbbbb cc\nddd"),
     ("\u{e9}\u{e9}\u{e9} two three", 8, "\u{e9}\u{e9}\u{e9} two\nthree"),
+    // the first byte and the last that can go on with a letter
+    ("\u{c0}\u{ff} a two three", 8, "\u{c0}\u{ff} a two\nthree"),
     ("\u{65e5}\u{672c} \u{8a9e}", 6, "\u{65e5}\u{672c}\n\u{8a9e}"),
     ("\u{65e5}\u{672c} \u{8a9e}", 7, "\u{65e5}\u{672c} \u{8a9e}"),
 ];

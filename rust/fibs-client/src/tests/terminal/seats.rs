@@ -285,6 +285,19 @@ pub fn fixed(steps: &[Cue<'_>]) -> Option<FixLine> {
     typed.get()
 }
 
+/// Whether a board of the game that the user watches is to be asked for by the last of some steps.
+pub fn asks_board(steps: &[Cue<'_>]) -> bool {
+    let asks = Cell::new(false);
+    let mut terminal = Terminal::new(Vec::new(), Stopped, plain_settings());
+    terminal.ask_for_boards(&asks);
+    let mut seat = TestSeat::new();
+    let (last, before) = steps.split_last().expect("there is a step");
+    seat.take_steps(before, &mut terminal).expect("it is shown");
+    asks.set(false);
+    seat.take_step(*last, &mut terminal).expect("it is shown");
+    asks.get()
+}
+
 /// Whether the line that was typed last ends the program.
 pub fn ends_after(steps: &[Cue<'_>]) -> bool {
     let mut terminal = Terminal::new(Vec::new(), Stopped, plain_settings());

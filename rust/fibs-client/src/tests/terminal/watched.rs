@@ -2,7 +2,7 @@
 
 use super::lines::{SETTINGS, WELCOME};
 use super::pictures::PLAIN;
-use super::seats::{Cue, assert_wanted, colour_settings, plain_settings};
+use super::seats::{Cue, asks_board, assert_wanted, colour_settings, plain_settings};
 use crate::fibs_fields::boards::Board;
 use crate::fibs_picture::in_words::{Told, append_told};
 use crate::fibs_picture::{NO_ARRIVALS, append_watched};
@@ -327,4 +327,14 @@ fn what_is_of_the_watched_player_is_bold() {
 fn a_watched_board_that_can_not_be_drawn_is_a_line() {
     let line = TO_ROLL.replace(":5:0:3:", ":6:0:3:");
     assert_eq!(seen(plain_settings(), &[&line]), format!("{line}\n"));
+}
+
+/// A board is asked for once, if the user has asked to watch a game and the server says that he does.
+#[test]
+fn a_board_of_a_watched_game_is_asked_for_once() {
+    let steps = [Cue::Types(b"watch bob"), Cue::Hears(b"You're now watching bob.\r\n"), Cue::Rests, Cue::Rests];
+    assert!(asks_board(&steps[..3]));
+    assert!(!asks_board(&steps));
+    assert!(!asks_board(&steps[1..3]));
+    assert!(!asks_board(&[steps[0], Cue::Rests]));
 }
