@@ -286,7 +286,8 @@ def the_last_of_two_settings_counts():
 
 @scene
 def settings_are_read_from_their_place():
-    """A file of 65,536 bytes, and not one byte more; where XDG_CONFIG_HOME says, before the home."""
+    """A file of 65,536 bytes, and not one byte more; where XDG_CONFIG_HOME says, before the home. A pipe is not waited
+    for."""
     with tempfile.TemporaryDirectory() as home:
         places = [pathlib.Path(home, name, 'fibs', 'config') for name in ('there', '.config')]
         for path in places:
@@ -304,6 +305,11 @@ def settings_are_read_from_their_place():
             with seated(FIBS_CONFIG=str(path)) as (ann, _):
                 ann.reads('Welcome, ann')
                 same('of %d bytes' % size, row % path in ' '.join(ann.lines()), True)
+        path.unlink()
+        os.mkfifo(path)
+        with seated(FIBS_CONFIG=str(path)) as (ann, _):
+            ann.reads('Welcome, ann')
+            same('of a pipe', "fibs: the settings of %s can't be read" % path in ' '.join(ann.lines()), True)
 
 
 @scene

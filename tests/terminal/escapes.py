@@ -261,6 +261,8 @@ ENVIRONMENTS = [
     ({'LC_ALL': 'de_DE.UTF-8@euro'}, False, AS_IT_IS, THEN),
     # as a Mac says it; the shell of these scenes is Python, which would set another locale
     ({'LC_ALL': None, 'LC_CTYPE': 'UTF-8', 'LANG': None, 'PYTHONCOERCECLOCALE': '0'}, False, AS_IT_IS, THEN),
+    # no locale at all
+    ({'LC_ALL': None, 'LC_CTYPE': None, 'LANG': None, 'PYTHONCOERCECLOCALE': '0'}, False, ESCAPED, THEN),
     ({'TZ': 'XYZ-5'}, False, ESCAPED, '17:58'),
     # a name that leads out of the place of the zones is none, and so is one that is not there
     ({'TZ': 'Asia/../Asia/Tokyo'}, False, ESCAPED, THEN),
