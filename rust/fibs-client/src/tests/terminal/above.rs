@@ -333,7 +333,7 @@ fn another_size_is_taken_at_once() {
     assert_eq!(low.scrolls, (0, 28));
 }
 
-/// A board of a game that is watched stands there too.
+/// A board of a game that is watched stands there too, the first one as well, and what it is is said below.
 #[test]
 fn a_watched_board_stands_above() {
     let board = String::from_utf8(TO_ROLL.to_vec()).unwrap().replace("You:bob", "ann:bob");
@@ -347,7 +347,7 @@ fn a_watched_board_stands_above() {
     let mut screen = Shown::new(40, 80, 3);
     screen.take(&shown(high(40), &[], &steps));
     screen.assert_above(&picture(&[("your turn", "O ann's turn"), ("O You", "O ann")]));
-    assert_eq!(screen.row(39), "You watch ann and bob: unwatch ends it.");
+    assert_eq!([screen.row(38), screen.row(39)], ["ann's turn.", "You watch ann and bob: unwatch ends it."]);
 }
 
 /// It is drawn for another size as well, and scrolls in a terminal that gets too low.

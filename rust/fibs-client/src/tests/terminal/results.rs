@@ -2,6 +2,7 @@
 
 use super::lines::{SETTINGS, WELCOME};
 use super::seats::{Cue, Cue::Hears, assert_wanted, plain_settings, shown, shown_with_record};
+use crate::fibs_wording::matches::read_match;
 use std::fs;
 use std::os::unix::fs::PermissionsExt;
 use std::path::PathBuf;
@@ -247,6 +248,15 @@ fn a_line_follows_the_end_of_the_last_one() {
     let line = "2003-01-05 13:07\tbob\t3\t3-1\t1500.00\t-\t-\n";
     for (before, between) in [("", ""), ("any\n", ""), ("2002-01-01 10:00\tbob\t3", "\n"), ("\n", "")] {
         assert_eq!(appended_to("half", before), format!("{before}{between}{line}"));
+    }
+}
+
+/// A length of eleven digits is read, and no longer one.
+#[test]
+fn the_longest_match_of_a_record_is_read() {
+    for (length, is_read) in [("99999999999", true), ("100000000000", false)] {
+        let line = format!("2003-01-05 13:07\tbob\t{length}\t{length}-0\t-\t-\t-");
+        assert_eq!(read_match(line.as_bytes()).is_some(), is_read, "{length}");
     }
 }
 
