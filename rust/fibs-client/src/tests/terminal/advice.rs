@@ -165,7 +165,7 @@ const WON_BY_MORE: &[u8] =
 /// Which row comes before which: an offer before that the server plays; that a double was refused, only if one may be
 /// made; how the game goes on, if the board of a match that was resumed is the one on which the decision was made; and
 /// nothing once the match is over.
-static ORDER: [Scene; 4] = [
+static ORDER: [Scene; 5] = [
     (
         &[Cue::Hears(AUTOMOVE), Cue::Hears(b"bob wants to resign. You will win 1 point.\r\n"), Cue::Rests],
         "You will win 1 point.\nbob offers to resign: accept, or reject.\n",
@@ -183,6 +183,10 @@ static ORDER: [Scene; 4] = [
             Cue::Rests,
         ],
         "about a word.\nIf it is your turn: roll, or double.\n",
+    ),
+    (
+        &[Cue::Types(b"roll"), Cue::Hears(RESUMED), Cue::Types(b"help"), Cue::Rests],
+        "about a word.\nroll was sent: board asks what became of it.\n",
     ),
     (
         &[Cue::Loses, Cue::Opens, Cue::Hears(WELCOME), Cue::Hears(SETTINGS), Cue::Hears(WON_BY_MORE), Cue::Rests],
