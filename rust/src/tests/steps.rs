@@ -138,4 +138,6 @@ fn a_board_says_whose_the_cube_is() {
             assert_eq!(board.is_crawford(), is_near && owner == CubeOwner::Nobody, "{cube} {scores}");
         }
     }
+    let owners = [CubeOwner::Nobody, CubeOwner::Player, CubeOwner::Opponent, CubeOwner::Middle];
+    assert_eq!(owners.map(CubeOwner::number), [0, 1, 2, 3]);
 }

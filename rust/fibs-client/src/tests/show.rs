@@ -245,3 +245,12 @@ fn says_what_failed() {
     let are_right = endings == wanted;
     assert!(are_right, "a reader, a writer, and neither");
 }
+
+/// Only memory that ran out is that: what fails else is a device.
+#[test]
+fn memory_that_ran_out_is_no_fault_of_a_device() {
+    assert_eq!(StreamFault::Memory.engine_fault(), EngineFault::Memory);
+    for fault in [StreamFault::Reader, StreamFault::Endless, StreamFault::Writer] {
+        assert_eq!(fault.engine_fault(), EngineFault::Device, "{fault:?}");
+    }
+}
