@@ -333,7 +333,7 @@ fn another_size_is_taken_at_once() {
     assert_eq!(low.scrolls, (0, 28));
 }
 
-/// A board of a game that is watched stands there too, the first one as well, and what it is is said below.
+/// A board of a game that is watched stands there too, the first one as well, and a row below says what it shows.
 #[test]
 fn a_watched_board_stands_above() {
     let board = String::from_utf8(TO_ROLL.to_vec()).unwrap().replace("You:bob", "ann:bob");

@@ -272,16 +272,21 @@ pub fn due_by<C: Clock>(clock: C, steps: &[Cue<'_>]) -> Option<Duration> {
     due.get()
 }
 
+/// Takes some steps, and forgets before the last one what those before it have asked for.
+fn take_last<F: Words>(steps: &[Cue<'_>], front: &mut F, forget: impl FnOnce()) {
+    let mut seat = TestSeat::new();
+    let (last, before) = steps.split_last().expect("there is a step");
+    seat.take_steps(before, front).expect("it is shown");
+    forget();
+    seat.take_step(*last, front).expect("it is shown");
+}
+
 /// Which line of `fix` is to be typed by the last of some steps.
 pub fn fixed(steps: &[Cue<'_>]) -> Option<FixLine> {
     let typed = Cell::new(None);
     let mut terminal = Terminal::new(Vec::new(), Stopped, plain_settings());
     terminal.fix_by(&typed);
-    let mut seat = TestSeat::new();
-    let (last, before) = steps.split_last().expect("there is a step");
-    seat.take_steps(before, &mut terminal).expect("it is shown");
-    typed.set(None);
-    seat.take_step(*last, &mut terminal).expect("it is shown");
+    take_last(steps, &mut terminal, || typed.set(None));
     typed.get()
 }
 
@@ -290,11 +295,7 @@ pub fn asks_board(steps: &[Cue<'_>]) -> bool {
     let asks = Cell::new(false);
     let mut terminal = Terminal::new(Vec::new(), Stopped, plain_settings());
     terminal.ask_for_boards(&asks);
-    let mut seat = TestSeat::new();
-    let (last, before) = steps.split_last().expect("there is a step");
-    seat.take_steps(before, &mut terminal).expect("it is shown");
-    asks.set(false);
-    seat.take_step(*last, &mut terminal).expect("it is shown");
+    take_last(steps, &mut terminal, || asks.set(false));
     asks.get()
 }
 
