@@ -191,8 +191,8 @@ be /dev/fd/3 or a named pipe, and each line of standard input is a typed line.
 If FILE can't be read, the status is 4.
 
 With `--log FILE` each line of the server is appended at once to FILE, and
-after `>> ` each line that is sent. The password never is. `fibs show` reads
-such a file. If FILE can't be opened, the status is 4.
+after `>> ` each line that is sent, but the login, which has the password.
+`fibs show` reads such a file. If FILE can't be opened, the status is 4.
 
 Then each line that is typed is one of
 

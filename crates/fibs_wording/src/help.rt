@@ -15,7 +15,7 @@ Talk        say TEXT   tell NAME TEXT   kibitz TEXT   whisper TEXT   shout TEXT
             message NAME TEXT (for later)   also: t NAME TEXT, k TEXT
             re TEXT: answers who spoke to you last   talk: the last 20 rows
             gag NAME: hides what NAME says   ungag NAME: shows it again
-            quiet: no shouts or arrivals   loud: both   arrivals: in matches
+            quiet: no shouts or arrivals   loud: again   arrivals: in matches
 Server      watch NAME  unwatch  leave  whois NAME  away TEXT  back  pip
             redouble  show saved   (these go to the server as they are)
             send LINE: sends LINE as it is, unchecked (send ratings bob)
@@ -263,7 +263,8 @@ score, cube, direction, held places, blots. words long: it is told whole.\n",
     ),
     (
         b"bye",
-        b"bye: leaves the server, which ends the connection, and mostly saves a match.\n",
+        b"bye: leaves the server, which ends the connection, and mostly saves a match.\n\
+In a match the first one only asks, and a second one leaves.\n",
     ),
     (
         b"open",
@@ -274,7 +275,11 @@ score, cube, direction, held places, blots. words long: it is told whole.\n",
     (b"columns", COLUMNS),
     (b"rows", ROWS),
     (b"numbers", NUMBERS),
-    (b"quit", b"quit: ends the program.\n"),
+    (
+        b"quit",
+        b"quit: ends the program. In a match the first one only asks, and a second one\n\
+ends it.\n",
+    ),
     (b"help", HELP),
     (b"?", HELP),
 ];
