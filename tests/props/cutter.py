@@ -9,7 +9,7 @@ import threading
 
 # What a server refuses, but a match that is not saved, or not any more.
 REFUSED = re.compile(rb"\*\* (?:You can't|You did already|You have to|It's not your turn|Your opponent didn't|"
-                     rb"There is nothing|Please)[^\r\n]*")
+                     rb"There is nothing|Please).*")
 
 DECISIONS = {'roll', 'double', 'accept', 'reject', 'move', 'resign'}
 
@@ -29,7 +29,8 @@ class Cutter:
         self.offers = 0
         self.listener = socket.create_server(('127.0.0.1', 0))
         self.port = self.listener.getsockname()[1]
-        threading.Thread(target=self.listen, daemon=True).start()
+        self.thread = threading.Thread(target=self.listen, daemon=True)
+        self.thread.start()
 
     def listen(self):
         while True:
@@ -47,6 +48,7 @@ class Cutter:
     def lead(self, player, server, sent):
         """Leads bytes both ways, up to the end of the connection. Those of the player are also put in a list."""
         other = {player: server, server: player}
+        begun = b''
         while True:
             for source in select.select(list(other), [], [])[0]:
                 try:
@@ -58,9 +60,8 @@ class Cutter:
                 if source is player:
                     sent.append(piece)
                 else:
-                    self.games += len(re.findall(rb'wins? the game and gets? ', piece))
-                    self.refused += REFUSED.findall(piece)
-                    self.offers += piece.count(b' wants to resign.')
+                    *lines, begun = (begun + piece).split(b'\r\n')
+                    self.read(lines)
                 is_cut = self.cuts < self.most_cuts and self.games < self.most_games and self.chance.random() < 1 / 15
                 try:
                     other[source].sendall(piece[:self.chance.randrange(len(piece) + 1)] if is_cut else piece)
@@ -73,5 +74,15 @@ class Cutter:
                             end.setsockopt(socket.SOL_SOCKET, socket.SO_LINGER, struct.pack('ii', 1, 0))
                     return
 
+    def read(self, lines):
+        """Notes what whole lines of the server say, since a piece can end anywhere."""
+        for line in lines:
+            self.games += len(re.findall(rb'wins? the game and gets? ', line))
+            self.refused += REFUSED.findall(line)
+            self.offers += line.count(b' wants to resign.')
+
     def close(self):
+        """Waits for the end of the last connection: only then is it known what was sent there."""
+        self.listener.shutdown(socket.SHUT_RDWR)
+        self.thread.join(10)
         self.listener.close()
