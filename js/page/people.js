@@ -12,6 +12,18 @@ const NEAR = 150;
 const rowOf = (...cells) => element('tr', {}, ...cells.map((cell) => (
   cell instanceof Node ? cell : element('td', { textContent: cell, className: 'n' }))));
 
+/** Shows rows. One that says the same as before stays where it is, with the focus or a press of the mouse on it. */
+const showRows = (id, rows) => {
+  const list = at(id);
+  const before = new Map([...list.children].map((row) => [row.innerHTML, row]));
+  const wanted = rows.map((row) => before.get(row.innerHTML) ?? row);
+  const kept = new Set(wanted);
+  for (const row of before.values()) if (!kept.has(row)) row.remove();
+  wanted.forEach((row, n) => {
+    if (list.children[n] !== row) list.insertBefore(row, list.children[n] ?? null);
+  });
+};
+
 export class People {
   #players = [];
   /** By the opponent's name: what a list has said of the match, or nothing. */
@@ -65,8 +77,8 @@ export class People {
       && (!at('near').checked || away(one) <= NEAR))
       .sort((a, b) => this.#saved.has(b.name) - this.#saved.has(a.name) || away(a) - away(b));
     at('count').textContent = `${wanted.length} of ${others.length}`;
-    at('players').replaceChildren(...wanted.slice(0, DRAWN).map((one) => this.#row(one)));
-    at('saved').replaceChildren(...[...this.#saved].map((one) => this.#savedRow(one)));
+    showRows('players', wanted.slice(0, DRAWN).map((one) => this.#row(one)));
+    showRows('saved', [...this.#saved].map((one) => this.#savedRow(one)));
   }
 
   #row(one) {

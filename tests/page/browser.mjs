@@ -81,8 +81,20 @@ export class Page {
   requests = [];
   #call;
 
+  /** One that stands still at its beginning is ended, and another one begun: nothing was done on it yet. */
   static async open(chromium, width = 1280, height = 800) {
-    const page = new Page();
+    for (let left = 3; left > 0; left -= 1) {
+      const page = new Page();
+      const begun = page.#begin(chromium, width, height).then(() => true, () => false);
+      const late = new Promise((resolve) => { setTimeout(resolve, 180000, false).unref(); });
+      if (await Promise.race([begun, late])) return page;
+      await page.end();
+    }
+    throw new Error('no browser begins');
+  }
+
+  async #begin(chromium, width, height) {
+    const page = this;
     page.home = mkdtempSync(join(tmpdir(), 'page-'));
     page.child = spawn(chromium, ['--headless=new', '--no-sandbox', '--disable-gpu', '--disable-dev-shm-usage',
       '--no-first-run', '--remote-debugging-pipe', '--hide-scrollbars', `--user-data-dir=${page.home}`, 'about:blank'],
@@ -95,7 +107,6 @@ export class Page {
     heard.push((message) => page.#note(message));
     for (const domain of ['Page', 'Runtime', 'Network']) await page.#call(`${domain}.enable`);
     await page.size(width, height);
-    return page;
   }
 
   call(method, params) { return this.#call(method, params); }
@@ -120,7 +131,7 @@ export class Page {
 
   async go(url) {
     await this.#call('Page.navigate', { url });
-    await this.until('Boolean(document.querySelector(".place"))', 90000);
+    await this.until('Boolean(document.querySelector(".place"))', 900000);
   }
 
   async ask(expression) {
@@ -216,7 +227,8 @@ export class Page {
 
   end() {
     return new Promise((ended) => {
-      this.child.on('exit', () => {
+      const isOver = this.child.exitCode !== null || this.child.signalCode;
+      const clear = () => {
         try {
           rmSync(this.home, { recursive: true, force: true, maxRetries: 10 });
         } catch (error) {
@@ -224,7 +236,9 @@ export class Page {
           if (error.code !== 'ENOTEMPTY') throw error;
         }
         ended();
-      });
+      };
+      if (isOver) clear();
+      else this.child.on('exit', clear);
       this.child.kill('SIGKILL');
     });
   }
@@ -233,7 +247,8 @@ export class Page {
 /** Logs in, by the mouse or by keys alone. */
 export const logIn = async (page, url, name, isByKeys) => {
   await page.go(url);
-  if (!isByKeys) await page.click('#name');
+  if (isByKeys) await page.until('document.activeElement?.id === "name"');
+  else await page.click('#name');
   await page.insert(name);
   if (isByKeys) await page.key('Tab');
   else await page.click('#password');
