@@ -37,7 +37,7 @@ class Link(asyncio.Protocol):
         self.chance = Random('%s %s' % (manners.seed, number))
         self.transport, self.host = None, '-'
         self.raw, self.data = b'', b''
-        self.pieces, self.timer, self.due = deque(), None, 0
+        self.gathered, self.pieces, self.timer, self.due = b'', deque(), None, 0
         self.is_over = False
         # who has logged in, and before that what was told of him
         self.player, self.name, self.tries = None, None, 0
@@ -108,7 +108,10 @@ class Link(asyncio.Protocol):
     def put(self, data):
         manners, loop = self.manners, asyncio.get_running_loop()
         if not (manners.portions or manners.delay):
-            self.transport.write(data)
+            # what is said at one moment leaves by one write
+            if not self.gathered:
+                loop.call_soon(self.give)
+            self.gathered += data
             return
         while data:
             count = self.chance.randint(1, manners.portions) if manners.portions else len(data)
@@ -116,6 +119,12 @@ class Link(asyncio.Protocol):
             self.pieces.append((self.due, data[:count]))
             data = data[count:]
         self.pump()
+
+    def give(self):
+        """Writes what was gathered."""
+        gathered, self.gathered = self.gathered, b''
+        if gathered and not self.transport.is_closing():
+            self.transport.write(gathered)
 
     def pump(self):
         """Writes the pieces whose time has come."""
@@ -138,6 +147,7 @@ class Link(asyncio.Protocol):
     def cut_off(self):
         """The connection breaks: it is closed, or reset."""
         self.is_over = True
+        self.give()
         if self.chance.random() < 0.5:
             linger = struct.pack('ii', 1, 0)
             self.transport.get_extra_info('socket').setsockopt(socket.SOL_SOCKET, socket.SO_LINGER, linger)
@@ -150,5 +160,6 @@ class Link(asyncio.Protocol):
     def end(self):
         """Ends the connection after what was sent."""
         self.is_over = True
+        self.give()
         if not self.pieces:
             self.transport.close()
