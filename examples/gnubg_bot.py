@@ -50,7 +50,7 @@ STEP = re.compile(r'(bar|\d+)/(off|\d+)\*?(?:\((\d)\))?')
 class Gnubg:
     """GNU Backgammon, which answers a board with what it would do."""
 
-    def __init__(self, program, plies=2, patience=20):
+    def __init__(self, program, plies=2, patience=60):
         self.program, self.plies, self.patience = program, plies, patience
         self.folder = tempfile.TemporaryDirectory(prefix='gnubg')
         self.process = self.socket = None

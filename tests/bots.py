@@ -27,7 +27,7 @@ SERVER = ['--bot', 'eve:resigns=9n', '--bot-pause', '0', '--mixed-sides', '--por
 MOST_CUTS, MOST_GAMES = 6, 1
 
 # How many seconds a bot has for its matches and for its login that is refused.
-PATIENCE = 120
+PATIENCE = 900
 
 # A name that the server knows, with another password than that of the bots.
 KNOWN = ['--account', 'ann:another', '--portions', '200', '--prompts']

@@ -82,7 +82,9 @@ class Player:
             try:
                 return self.line(2)
             except queue.Empty:
-                self.type('')
+                # at the end of what is typed the program goes on by itself
+                if not self.program.stdin.closed:
+                    self.type('')
         raise Failed('no line came after %r' % self.printed[-3:])
 
     def sees(self, *lines):

@@ -230,15 +230,14 @@ def a_stranger_who_says_nothing_and_leaves():
 
 def waits_in_vain(program):
     """What is set of both ends, while one of them waits for what does not come."""
-    end = time.monotonic() + PATIENCE
-    while (found := peeking.options(program.pid)) is not None and len(found) < 2:
+    # at once, seconds, seconds after a portion, milliseconds
+    wanted, end = [(True, 0, 0, 10000)] * 2, time.monotonic() + PATIENCE
+    while (found := peeking.options(program.pid)) is not None and found != wanted:
         if program.poll() is not None or time.monotonic() > end:
-            raise Failed('no two ends: %r' % found)
+            raise Failed('what is set of both ends: %r, and not %r' % (found, wanted))
         time.sleep(0.02)
     if found is None:
         print('        the system does not show what is set of its sockets: not tried', flush=True)
-    else:
-        same('at once, seconds, seconds after a portion, milliseconds', found, [(True, 0, 0, 10000)] * 2)
 
 
 def a_stranger_who_says_nothing_and_stays():

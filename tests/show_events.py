@@ -45,7 +45,7 @@ def recorded(length, seed, **more):
         bob.send('join ann')
         play(ann, bob)
         for client in (ann, bob):
-            client.take(0.3)
+            client.catches_up()
             client.close()
         return ann, bob
     finally:

@@ -9,7 +9,7 @@ import threading
 
 # What a server refuses, but a match that is not saved, or not any more.
 REFUSED = re.compile(rb"\*\* (?:You can't|You did already|You have to|It's not your turn|Your opponent didn't|"
-                     rb"There is nothing|Please).*")
+                     rb"There is nothing|Please (?:type|wait until)).*")
 
 DECISIONS = {'roll', 'double', 'accept', 'reject', 'move', 'resign'}
 
@@ -66,6 +66,9 @@ class Cutter:
                 try:
                     other[source].sendall(piece[:self.chance.randrange(len(piece) + 1)] if is_cut else piece)
                 except OSError:
+                    # what the player said before it left is still to be read
+                    if source is server:
+                        continue
                     return
                 if is_cut:
                     self.cuts += 1

@@ -34,7 +34,7 @@ class Player:
         self.session = folder / (name + '.session')
         self.process = subprocess.Popen(
             [sys.executable, '-B', str(ROOT / 'examples' / 'gnubg_bot.py'), '127.0.0.1', str(self.cutter.port), name,
-             *words, '--save', str(self.session), '--patience', '30', '--plies', '0', '--gnubg', matchfiles.gnubg()],
+             *words, '--save', str(self.session), '--patience', '90', '--plies', '0', '--gnubg', matchfiles.gnubg()],
             stdin=subprocess.PIPE, stdout=subprocess.PIPE, stderr=subprocess.STDOUT, text=True,
             env={**os.environ, 'PYTHONPATH': str(ROOT / 'python')})
         self.process.stdin.write('secret\n')
@@ -84,7 +84,7 @@ def play(folder):
         port = int(server.stdout.readline())
         players = [Player(folder, 'ann', port, 1, '--invite', 'bob', str(POINTS)),
                    Player(folder, 'bob', port, 2, '--join', 'ann')]
-        statuses = [player.wait(150) for player in players]
+        statuses = [player.wait(900) for player in players]
     finally:
         server.terminate()
         server.wait()
@@ -353,7 +353,7 @@ def what_goes_wrong_is_said(counts):
 
 
 def the_short_bot_plays_over_connections_that_are_cut(counts):
-    for fault in bots.wrong_with([sys.executable, '-B', str(ROOT / 'examples' / 'short_bot.py')], 4):
+    for fault in bots.wrong_with([sys.executable, '-B', str(ROOT / 'examples' / 'short_bot.py')], 5):
         counts.check(not fault, fault)
 
 

@@ -147,6 +147,9 @@ class Stubborn(Gambler):
             self.send(found[1])
         elif line == "** You're not playing.":
             self.invite()
+        elif self.board and line.startswith("** There's no saved match with "):
+            # it is over, and both have lost what was said of that
+            self.result = line
         else:
             super().hear(line)
 
@@ -229,7 +232,7 @@ def random_commands_never_upset_it():
         for name, client in clients.items():
             client.close()
             again = Client(server.port, name)
-            again.forget(0.3)
+            again.catches_up()
             again.answers('version', 'fibs_server of Liftplum')
             again.close()
     finally:

@@ -56,13 +56,13 @@ def logins(server):
     ann.sees('7 bob bob logs in.')
     eve = Client(server.port)
     eve.send(*['eve', 'secret'] * 4)
-    while eve.take(5):
+    while eve.take(PATIENCE):
         pass
     same('the end comes after three', (eve.is_over, eve.raw.count(b'wrong password.')), (True, 3))
     bob.send('bye')
     ann.sees('8 bob bob logs out.')
     bob.shown('                    Goodbye.')
-    while bob.take(5):
+    while bob.take(PATIENCE):
         pass
     same('the end of the connection', bob.is_over, True)
     again = Client(server.port, 'ann')

@@ -121,7 +121,8 @@ def what_was_lost_of_a_screen_comes_again(server):
     server.send(board_of(1))
     seen.until('the board', lambda rows: is_above(rows, '-'))
     ann.type_bytes(b'tell bob\x0c')
-    seen.until('what is typed', lambda rows: any(row.startswith('tell bob') for row in rows))
+    seen.until('what is typed on a screen that was wiped',
+               lambda rows: rows[0] != EDGE and any(row.startswith('tell bob') for row in rows))
     server.send(board_of(1, own=(4, 3)))
     rows = seen.until('the board', lambda rows: is_above(rows, '4 3'))
     ann.type_bytes(b' hi\n')

@@ -16,7 +16,7 @@ import sys
 import time
 from collections import Counter
 
-from people import Failed, Person
+from people import PATIENCE, Failed, Person
 from witness import rules
 from words import REFUSED, read
 
@@ -246,7 +246,7 @@ class Babble:
             # they send nothing, or end the connection
             return
         self.ann.type(line)
-        end = time.monotonic() + 20
+        end = time.monotonic() + PATIENCE
         while not (row := self.ann.next_line(max(0.01, end - time.monotonic()))).startswith('sent'):
             if REFUSED.fullmatch(row):
                 raise Failed('%r was refused: %r, after the rows %r and the texts %r' % (line, row, rows, lines[-12:]))
@@ -286,9 +286,9 @@ def babbled(seed, texts):
 def anything_at_any_moment():
     """A few thousand texts."""
     with concurrent.futures.ThreadPoolExecutor(4) as pool:
-        for counts, _ in pool.map(babbled, range(4), [2500] * 4):
-            if counts['row hint'] < 5:
-                raise Failed('hardly a hint was seen: %r' % counts)
+        total = sum((counts for counts, _ in pool.map(babbled, range(4), [2500] * 4)), Counter())
+        if total['row hint'] < 5:
+            raise Failed('hardly a hint was seen: %r' % total)
 
 
 SCENES = [anything_at_any_moment]

@@ -142,7 +142,7 @@ def the_first_row_with_rlwrap():
 def memory(server):
     ann = greeted(server)
     server.send(*(['13 eve a line of talk that is heard and shown'] * 20000), BOARD)
-    ann.hint()
+    ann.advised('hint', seconds=PATIENCE)
     with open('/proc/%d/status' % ann.job) as status:
         peak = int(re.search(r'^VmHWM:\s+(\d+) kB', status.read(), re.M)[1])
     print('        measured: %d kB of memory at most' % peak, flush=True)
@@ -155,11 +155,15 @@ def a_dead_router_is_seen(server):
     """The system asks after the other end when the connection is idle, within two minutes."""
     ann = greeted(server)
     port, established = ':%04X' % server.port, '01'
-    with open('/proc/net/tcp') as table:
-        rows = [row for row in map(str.split, table) if row[2].endswith(port) and row[3] == established]
-    if not rows:
-        raise Failed('no connection to port %d' % server.port)
-    kind, when = rows[0][5].split(':')
+    kind, end = '01', time.monotonic() + PATIENCE
+    # while what was sent last is not acknowledged the timer is that of sending it again
+    while kind == '01' and time.monotonic() < end:
+        time.sleep(0.01)
+        with open('/proc/net/tcp') as table:
+            rows = [row for row in map(str.split, table) if row[2].endswith(port) and row[3] == established]
+        if not rows:
+            raise Failed('no connection to port %d' % server.port)
+        kind, when = rows[0][5].split(':')
     same('the timer is that of keepalive, and runs within two minutes',
          (kind, int(when, 16) / os.sysconf('SC_CLK_TCK') <= 120), ('02', True))
     ann.close()

@@ -68,13 +68,22 @@ class Recorded:
         self.ann.close()
         self.server.close()
 
-    def reads(self, seconds):
-        """Rows are read until nothing more comes for so long."""
+    def reads(self, seconds, last=None):
+        """Rows are read up to one that ends an answer, or has this text, however long it takes; and then until nothing
+        more comes for so long."""
+        is_answered = False
         while True:
             try:
-                self.rows.append(same_each_time(self.ann.next_line(seconds)))
+                row = self.ann.next_line(seconds if is_answered else PATIENCE)
             except Failed:
+                if not is_answered:
+                    raise
                 return
+            self.rows.append(same_each_time(row))
+            if last:
+                is_answered |= last in row
+            else:
+                is_answered |= read(row)[0] in ('hint', 'answer') or ENDED.fullmatch(row) is not None
 
     def types(self, line):
         """A line is typed; the terminal shows it, and the page shows it after a prompt."""
@@ -92,11 +101,12 @@ class Recorded:
     def plays(self):
         """Plays the game to its end."""
         typed = list(TYPED)
-        self.reads(1.5)
+        self.reads(1.5, 'players ready')
         while not any(ENDED.fullmatch(row) for row in self.rows):
             # the talk comes when the first move is to be made
-            self.types(self.next_line(typed))
-            self.reads(0.7)
+            line = self.next_line(typed)
+            self.types(line)
+            self.reads(0.7, 'eve says: ' if line.startswith('tell ') else None)
         self.ann.type('quit')
         self.rows.append('> quit')
         return as_at_once(self.rows)

@@ -9,7 +9,7 @@ from game import rows_of_the_page
 from words import ENDED, REFUSED, read
 
 # How long a screen may wait for the other one before ann counts as stuck.
-STUCK = 15
+STUCK = 60
 
 # The kinds of rows that are followed.
 FOLLOWED = 'hint', 'answer', 'board', 'doubles', 'go on', 'next', 'invited', 'open'
@@ -62,6 +62,9 @@ def match_by_hints(*options, seed=1, bot='invites=2,plays=random,resigns=4n', **
     try:
         follower = Follower(server, seed, **more)
         follower.plays_to_the_end()
+        # a board may have shown the end: what the server says behind it has come with this row
+        while not follower.ann.next_line(STUCK).startswith(('invite eve ', 'lost: ')):
+            pass
         follower.ann.quits()
         follower.ann.close()
         return follower
@@ -81,7 +84,9 @@ def by_hints_over_connections_that_are_cut():
     """The game outlives its connections; she opens them again as the screen says."""
     cuts = 0
     for seed in range(3):
-        cuts += match_by_hints('--cut', '60', '--keep-games', '--no-changes', seed=seed + 20).lost
+        # without offers: of one that is open when a connection ends a screen says nothing unless it is asked
+        cuts += match_by_hints('--cut', '60', '--keep-games', '--no-changes', seed=seed + 20,
+                               bot='invites=1,plays=random').lost
     same('connections were cut', cuts > 3, True)
 
 
@@ -146,7 +151,8 @@ class Joined(Person):
         line = super().next_line(seconds)
         while not PICTURE.fullmatch(line):
             try:
-                more = super().next_line(0.05)
+                # only a row that is nearly full goes on
+                more = super().next_line(0.5 if len(line) > 30 else 0.05)
             except Failed:
                 break
             if not more.startswith(' ') or PICTURE.fullmatch(more):

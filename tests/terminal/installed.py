@@ -15,7 +15,7 @@ from words import ENDED, REFUSED, read
 PLAY = sys.argv[1]
 
 # How long a row may take to come.
-PATIENCE = 30
+PATIENCE = 180
 
 # The rows that are followed.
 FOLLOWED = 'hint', 'answer', 'board', 'doubles', 'go on', 'next'

@@ -27,7 +27,7 @@ PASSWORD_FILE = os.path.join(ROOM.name, 'password')
 pathlib.Path(PASSWORD_FILE).write_text(PASSWORD + '\n')
 
 # How long a row of advice may take to come.
-SOON = 20
+SOON = 60
 
 # What a terminal that knows bold letters is sent for them.
 BOLD = re.compile(r'\x1b\[[0-9;]*m')

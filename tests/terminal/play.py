@@ -452,6 +452,8 @@ def tab_completes_by_place(server):
                              (b'tell qui\t', 'tell qui'), (b'm ba\t', 'm bar'), (b'm bar/2\t0 6/o\t', 'm bar/20 6/off'),
                              (b'quie\t', 'quiet'), (b'm wi\t', 'm wi')]:
             player.type_bytes(typed)
+            # a busy machine takes its time; and then nothing more comes
+            player.wait_until('%r after %r' % (shown, typed), lambda: drawn(player)[-1].rstrip() == shown)
             player.shown(0.3)
             row = drawn(player)[-1].rstrip()
             same('after %r' % typed, row, shown)

@@ -4,6 +4,7 @@ that plays by itself."""
 import time
 
 from people import PASSWORD, Client, Failed, Person, Served, at_a_table, near_and_far, same
+from props.listener import keeps_port
 from offers import ANN_BEGINS, BOB_BEGINS
 from words import read
 
@@ -101,9 +102,8 @@ SCENES += [a_right_password('and_a_prompt_in_pieces', '--portions', '4', '--paus
 
 def no_server():
     """Nobody listens: the reason is said, and the prompt stays."""
-    server = Served()
-    port = server.port
-    server.close()
+    kept = keeps_port()
+    port = kept.getsockname()[1]
     ann = Person(port)
     wanted = 'no connection to 127.0.0.1:%d: connection refused' % port
     same('the first time', ann.reads('no connection').startswith(wanted), True)
@@ -112,6 +112,7 @@ def no_server():
     ann.quits()
     ann.was_not_refused()
     ann.close()
+    kept.close()
 
 
 def no_such_name():

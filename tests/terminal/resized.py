@@ -77,7 +77,7 @@ def the_size_of_a_window_is_told_from_the_least_to_the_greatest():
         before = len(ann.screen())
         ann.type('tell bob hi')
         same('it is sent', server.line(), 'tell bob hi')
-        ann.shown(0.5)
+        ann.sees('sent tell bob hi')
         found = re.findall('(columns [0-9]+|rows [0-9]+)\r*\n', ann.screen()[before:])
         same('what is told at %d by %d' % (columns, rows), found, told)
     leaves(ann, server, *['tell bob hi'] * 7)

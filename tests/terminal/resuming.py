@@ -217,8 +217,8 @@ def a_roll_crosses_his_leaving_and_she_connects_again(table):
     ann_is_to_roll(table)
     table.bob.send('leave')
     table.ann.type('roll')
-    table.ann.reads("** You're not playing.")
-    table.ann.advised('gone')
+    # on a busy machine the row that says how to go on comes before this answer
+    table.ann.answered_and_advised("** You're not playing.", 'gone', 'invite bob')
     table.comes_again()
     takes_up(table)
     ann_rolls(table, 'hint')
