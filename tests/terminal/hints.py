@@ -22,9 +22,9 @@ PICTURE_WORDS = re.compile(r' (?:You|The) .*')
 class Follower:
     """One who reads the screen, and types one of the lines that it names last."""
 
-    def __init__(self, server, seed, **more):
-        self.chance = random.Random(seed)
-        self.ann = Person(server.port, **more)
+    def __init__(self, server, seed, kind=Person, doubles=True, **more):
+        self.chance, self.doubles = random.Random(seed), doubles
+        self.ann = kind(server.port, **more)
         self.typed, self.lost = [], 0
 
     def line_for(self, line):
@@ -34,7 +34,7 @@ class Follower:
             return None
         self.lost += kind == 'open'
         if kind == 'hint' and self.chance.random() < 0.2:
-            return self.chance.choice(named)
+            return self.chance.choice([it for it in named if self.doubles or it != 'double'])
         return named[0]
 
     def plays_to_the_end(self):
@@ -162,15 +162,6 @@ class Joined(Person):
         return line
 
 
-class Narrow(Follower):
-    """One who plays so on a terminal of 40 columns."""
-
-    def __init__(self, server, seed):
-        self.chance = random.Random(seed)
-        self.ann = Joined(server.port, columns=40, COLUMNS='40')
-        self.typed, self.lost = [], 0
-
-
 # What can be typed in a match, beside the words of `help`.
 ASKED_FOR = ['players', 'players ready', 'plays', 'plays bar', 'try', 'go', 'moves', 'matches', 'words', 'board',
              'talk', 'quiet', 'loud', 'arrivals', 'arrivals', 'gag eve', 'ungag eve', 'ungag carl', 'gag', 'numbers',
@@ -185,7 +176,7 @@ def every_row_fits_forty_columns():
     with a space."""
     server = Served('--bot', 'eve:invites=1,plays=random,says=hello', '--bot-pause', '20', '--seed', '7')
     try:
-        follower = Narrow(server, 7)
+        follower = Follower(server, 7, Joined, columns=40, COLUMNS='40')
         ann = follower.ann
         ann.types_what('invited', 'join eve')
         ann.hint()

@@ -46,11 +46,12 @@ def matches_of_a_log():
             log = pathlib.Path(room, 'game.log')
             for seed in 1, 2:
                 held = log.read_bytes() if log.exists() else b''
-                # which line a cut hits depends on who is quicker: a match whose end it hides is played once more
+                # which line a cut hits depends on who is quicker: a match whose end it hides is played once more, and
+                # she does not double there, since a screen says nothing by itself of what has become of that
                 for again in range(5):
                     log.write_bytes(held)
                     match_by_hints(*options, seed=10 * number + seed + 1000 * again, words=['--log', str(log)],
-                                   bot='invites=%d,plays=random,%s' % (length, bot))
+                                   bot='invites=%d,plays=random,%s' % (length, bot), doubles='--cut' not in options)
                     begun = log.read_text('latin-1').count('** You are now playing a ')
                     if len(list(results(log))) == begun == seed:
                         break
