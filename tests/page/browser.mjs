@@ -94,19 +94,18 @@ export class Page {
   }
 
   async #begin(chromium, width, height) {
-    const page = this;
-    page.home = mkdtempSync(join(tmpdir(), 'page-'));
-    page.child = spawn(chromium, ['--headless=new', '--no-sandbox', '--disable-gpu', '--disable-dev-shm-usage',
-      '--no-first-run', '--remote-debugging-pipe', '--hide-scrollbars', `--user-data-dir=${page.home}`, 'about:blank'],
+    this.home = mkdtempSync(join(tmpdir(), 'page-'));
+    this.child = spawn(chromium, ['--headless=new', '--no-sandbox', '--disable-gpu', '--disable-dev-shm-usage',
+      '--no-first-run', '--remote-debugging-pipe', '--hide-scrollbars', `--user-data-dir=${this.home}`, 'about:blank'],
     { stdio: ['ignore', 'ignore', 'ignore', 'pipe', 'pipe'] });
-    const { call, heard } = protocol(page.child);
+    const { call, heard } = protocol(this.child);
     const { targetInfos } = await call('Target.getTargets');
     const { targetId } = targetInfos.find(({ type }) => type === 'page');
     const { sessionId } = await call('Target.attachToTarget', { targetId, flatten: true });
-    page.#call = (method, params) => call(method, params, sessionId);
-    heard.push((message) => page.#note(message));
-    for (const domain of ['Page', 'Runtime', 'Network']) await page.#call(`${domain}.enable`);
-    await page.size(width, height);
+    this.#call = (method, params) => call(method, params, sessionId);
+    heard.push((message) => this.#note(message));
+    for (const domain of ['Page', 'Runtime', 'Network']) await this.#call(`${domain}.enable`);
+    await this.size(width, height);
   }
 
   call(method, params) { return this.#call(method, params); }

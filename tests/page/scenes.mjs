@@ -208,8 +208,9 @@ const twoPlayers = async () => {
   await ann.until(has('.notice.bad'));
   await bob.until(has('.notice.bad'));
   await shot(ann, 'lost');
+  await ann.ask('document.querySelector(".notice.bad").dataset.old = ""');
   await ann.click('.notice.bad button');
-  await ann.until(has('.notice.bad'));
+  await ann.until(has('.notice.bad:not([data-old])'));
   check('a click does not help while fibs-page is away', true);
   way = await relay(game.line, new URL(way.line).port);
   for (const page of [ann, bob]) {

@@ -111,7 +111,7 @@ def a_server_that_asks_twice_before_it_reads_the_login(server):
             server.send('', WELCOME)
             if time.monotonic() - asked < 0.3:
                 break
-            # this was no soon: she may have given up
+            # that was not soon: she may have given up
             ann.close()
         ann.reads('Welcome, ann')
         same('what is wrong', [row for row in ann.lines() if 'Not logged in' in row], [])
